@@ -1,0 +1,120 @@
+-- Laws of packed bits (specs/Bits.antt): what is packed is read back, and the ones of packed bits. Assumes nothing.
+use mathlib.Core.Path.{_≡_, refl, sym, ap, _∙_}
+use mathlib.Core.Bool.{Bool, true, false, cond, _&&_}
+use mathlib.Core.List.{List, [], _∷_, _++_}
+use Prim.Native.Nat.{ℕ, zero, suc, _+_, _-_, _*_, _/_, _%_, _^_, _≤_, _<_}
+use native.Mathlib.Nat.{not-suc-le-zero, le-of-suc-le-suc, mul-assoc, add-zero, add-comm, mul-le-mul-right, pow-suc, pow-succ', two-pow-succ, div-div-eq-div-mul}
+use native.Mathlib.Omega.{arith}
+use lib.Dec.{eqb, leb, ltb}
+use lib.ListN.{length, getD, List·getD-append}
+use borrow.Author.Tests.{lt-ltb, le-ltb, le-leb, ltb-true}
+use Rattle.bits.specs.Sequences.{concat, sum}
+use Rattle.bits.specs.Bits.{bitValue, bitAt, bytesFor, byteOf, packBytes, pack, replaceBits, setBits}
+use Rattle.bits.proofs.Sequences.{concat-cong, sum-cong, sum-mul, sum-const, sum-add, sum-zero, sum-head, length-tabulate, getD-tabulate}
+
+pub bitValue-lt : (b : Bool) → bitValue b < 2
+bitValue-lt true = omega arith
+bitValue-lt false = omega arith
+
+pub bit-test : (b : Bool) → eqb (bitValue b) 1 ≡ b
+bit-test true = refl
+bit-test false = refl
+
+-- a sum of powers of two, one step down
+weights : (n : ℕ) (g : ℕ → Bool) → sum (suc n) (λ j. bitValue (g j) * 2 ^ j) ≡ bitValue (g 0) + 2 * sum n (λ j. bitValue (g (suc j)) * 2 ^ j)
+weights n g =
+    let t : (j : ℕ) → bitValue (g (suc j)) * 2 ^ suc j ≡ bitValue (g (suc j)) * 2 ^ j * 2 =
+    λ j. ap (λ (k : ℕ). bitValue (g (suc j)) * k) (pow-suc 2 j) ∙ sym (mul-assoc (bitValue (g (suc j))) (2 ^ j) 2) in
+    let e : sum n (λ j. bitValue (g (suc j)) * 2 ^ suc j) ≡ sum n (λ j. bitValue (g (suc j)) * 2 ^ j) * 2 =
+    sum-cong n (λ j b. t j) ∙ sum-mul n (λ j. bitValue (g (suc j)) * 2 ^ j) 2 in
+    sum-head n (λ j. bitValue (g j) * 2 ^ j) ∙ rw e (omega arith)
+
+weighted-bit : (n : ℕ) (g : ℕ → Bool) (j : ℕ) → j < n → sum n (λ k. bitValue (g k) * 2 ^ k) / 2 ^ j % 2 ≡ bitValue (g j)
+weighted-bit zero g j h = absurd (not-suc-le-zero h)
+weighted-bit (suc n) g zero h = rw (weights n g) (omega (arith, bitValue-lt (g 0)))
+weighted-bit (suc n) g (suc j) h =
+    let s : ℕ = sum n (λ k. bitValue (g (suc k)) * 2 ^ k) in
+    let d : (bitValue (g 0) + 2 * s) / 2 ≡ s = omega (arith, bitValue-lt (g 0)) in
+    rw (weights n g, pow-succ' 2 j, ← div-div-eq-div-mul, d) (weighted-bit n (λ k. g (suc k)) j (le-of-suc-le-suc h))
+
+pub bit-byteOf : (g : ℕ → Bool) (j : ℕ) → j < 8 → eqb (byteOf g / 2 ^ j % 2) 1 ≡ g j
+unfolding byteOf
+bit-byteOf g j h = rw (weighted-bit 8 g j h) (bit-test (g j))
+
+pub length-packBytes : (n : ℕ) (g : ℕ → Bool) → length (packBytes n g) ≡ n
+unfolding packBytes
+length-packBytes n g = length-tabulate n (λ k. byteOf (λ j. g (8 * k + j)))
+
+pub bitAt-packBytes : (n : ℕ) (g : ℕ → Bool) (p : ℕ) → p < 8 * n → bitAt (packBytes n g) p ≡ g p
+unfolding bitAt packBytes
+bitAt-packBytes n g p h =
+    let l : p / 8 < n = omega arith in
+    let m : p % 8 < 8 = omega arith in
+    let e : 8 * (p / 8) + p % 8 ≡ p = omega arith in
+    rw (getD-tabulate n (λ k. byteOf (λ j. g (8 * k + j))) (p / 8) l) (bit-byteOf (λ j. g (8 * (p / 8) + j)) (p % 8) m ∙ ap g e)
+
+pub length-pack : (n : ℕ) (g : ℕ → Bool) → length (pack n g) ≡ bytesFor n
+unfolding pack
+length-pack n g = length-packBytes (bytesFor n) (λ p. ltb p n && g p)
+
+pub bitAt-pack : (n : ℕ) (g : ℕ → Bool) (i : ℕ) → i < n → bitAt (pack n g) i ≡ g i
+unfolding pack
+bitAt-pack n g i h = bitAt-packBytes (bytesFor n) (λ p. ltb p n && g p) i (omega arith) ∙ rw (lt-ltb i n h)
+
+pub length-replaceBits : (s : List ℕ) (b n : ℕ) (g : ℕ → Bool) → length (replaceBits s b n g) ≡ length s
+unfolding replaceBits
+length-replaceBits s b n g = length-packBytes (length s) _
+
+pub bitAt-replaceBits : (s : List ℕ) (b n : ℕ) (g : ℕ → Bool) (i : ℕ) → i < n → bytesFor (b + n) ≤ length s → bitAt (replaceBits s b n g) (b + i) ≡ g i
+unfolding replaceBits
+bitAt-replaceBits s b n g i h l =
+    bitAt-packBytes (length s) (λ p. cond (leb b p && ltb p (b + n)) (g (p - b)) (bitAt s p)) (b + i) (omega arith)
+    ∙ rw (le-leb b (b + i) (omega arith), lt-ltb (b + i) (b + n) (omega arith)) (ap g (omega arith))
+
+-- ---- equal where the functions agree
+
+pub packBytes-cong : (n : ℕ) {f g : ℕ → Bool} → ((p : ℕ) → p < 8 * n → f p ≡ g p) → packBytes n f ≡ packBytes n g
+unfolding packBytes byteOf
+packBytes-cong n h = concat-cong n (λ k b. ap (λ (m : ℕ). m ∷ []) (sum-cong 8 (λ j l. ap (λ (t : Bool). bitValue t * 2 ^ j) (h (8 * k + j) (omega arith)))))
+
+pub pack-cong : (n : ℕ) {f g : ℕ → Bool} → ((p : ℕ) → p < n → f p ≡ g p) → pack n f ≡ pack n g
+unfolding pack
+pack-cong n {f} {g} h = packBytes-cong (bytesFor n) (λ p b. go p (ltb p n) refl)
+  where
+    go : (p : ℕ) (t : Bool) → ltb p n ≡ t → (t && f p) ≡ (t && g p)
+    go p true e = h p (ltb-true p n e)
+    go p false e = refl
+
+-- ---- set bits
+
+weights-lt : (n : ℕ) (g : ℕ → Bool) → sum n (λ j. bitValue (g j) * 2 ^ j) < 2 ^ n
+weights-lt zero g = omega arith
+weights-lt (suc n) g =
+    let h : bitValue (g n) * 2 ^ n ≤ 1 * 2 ^ n = mul-le-mul-right (2 ^ n) (omega (arith, bitValue-lt (g n))) in
+    omega (arith, weights-lt n g, two-pow-succ n)
+
+-- a packed byte is a byte
+pub byteOf-lt : (g : ℕ → Bool) → byteOf g < 256
+unfolding byteOf
+byteOf-lt g = weights-lt 8 g
+
+-- bits before the end of a do not see b
+pub bitAt-append : (a b : List ℕ) (p : ℕ) → p < 8 * length a → bitAt (a ++ b) p ≡ bitAt a p
+unfolding bitAt
+bitAt-append a b p h = rw (List·getD-append a b 0 (p / 8) (omega arith))
+
+-- of packed bits, the bits that are set are those of the function: spare bits are not counted
+pub setBits-pack : (n : ℕ) (g : ℕ → Bool) (s : List ℕ) → setBits (bytesFor n) (pack n g ++ s) ≡ sum n (λ i. bitValue (g i))
+unfolding setBits pack
+setBits-pack n g s =
+    let f : ℕ → Bool = λ p. ltb p n && g p in
+    let b : ℕ = bytesFor n in
+    let r : ℕ = 8 * b - n in
+    let e : 8 * b ≡ n + r = omega arith in
+    let l : length (packBytes b f) ≡ b = length-packBytes b f in
+    sum-cong (8 * b) (λ p h. ap bitValue (bitAt-append (packBytes b f) s p (omega arith) ∙ bitAt-packBytes b f p h))
+    ∙ ap (λ (m : ℕ). sum m (λ p. bitValue (f p))) e
+    ∙ sum-add n r (λ p. bitValue (f p))
+    ∙ ap (λ (m : ℕ). sum n (λ p. bitValue (f p)) + m) (sum-zero r (λ j. bitValue (f (n + j))) (λ j h. rw (le-ltb (n + j) n (omega arith))))
+    ∙ add-zero (sum n (λ p. bitValue (f p)))
+    ∙ sum-cong n (λ i h. rw (lt-ltb i n h))

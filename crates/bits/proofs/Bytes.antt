@@ -1,0 +1,51 @@
+-- Laws of parts and of overwritten buffers (specs/Bytes.antt), in the form that loops ask for. Assumes nothing.
+use mathlib.Core.Path.{_≡_, refl, sym, ap, _∙_, subst}
+use mathlib.Core.List.{List, [], _∷_, _++_, append-assoc}
+use Prim.Native.Nat.{ℕ, suc, _+_, _*_, _≤_, _<_}
+use native.Mathlib.Nat.{mul-le-mul-right}
+use native.Mathlib.Numerals.{add-one}
+use native.Mathlib.Omega.{arith}
+use lib.ListN.{length, take, drop, set, length-append, length-drop}
+use lib.Seq.{length-take-le, drop-cons, take-at, drop-at, drop-drop, set-append-seam}
+use Rattle.bits.specs.Bytes.{part, overwrite}
+
+-- ---- lengths
+
+pub length-part : (p n : ℕ) (s : List ℕ) → p + n ≤ length s → length (part p n s) ≡ n
+length-part p n s h = length-take-le n (drop p s) (omega (arith, length-drop p s))
+
+pub length-overwrite : (e s : List ℕ) → length e ≤ length s → length (overwrite e s) ≡ length s
+length-overwrite e s h = simp (length-append, length-drop) (omega arith)
+
+-- block i of a buffer of blocks
+pub length-block : (s : List ℕ) (rows n : ℕ) → rows * n ≤ length s → (i : ℕ) → i < rows → length (part (i * n) n s) ≡ n
+length-block s rows n fits i h =
+    let m : suc i * n ≤ rows * n = mul-le-mul-right n h in
+    length-part (i * n) n s (omega arith)
+
+-- ---- a part that starts at the running total: after a, b is written into the rest
+
+pub overwrite-step : (a b s : List ℕ) → overwrite (a ++ b) s ≡ a ++ overwrite b (drop (length a) s)
+overwrite-step a b s = rw (length-append, ← drop-drop (length b) (length a) s) (append-assoc a b (drop (length b) (drop (length a) s)))
+
+-- the bytes before the running total stay, and the tail is what was lent
+pub take-overwrite : (a s : List ℕ) → take (length a) (overwrite a s) ≡ a
+take-overwrite a s = take-at a (drop (length a) s) (length a) refl
+
+pub drop-overwrite : (a s : List ℕ) → drop (length a) (overwrite a s) ≡ drop (length a) s
+drop-overwrite a s = drop-at a (drop (length a) s) (length a) refl
+
+-- one more byte: the store of a loop that goes up
+pub overwrite-set : (a s : List ℕ) (b : ℕ) → length a < length s → set (overwrite a s) (length a) b ≡ overwrite (a ++ (b ∷ [])) s
+overwrite-set a s b h =
+    rw (drop-cons s (length a) 0 h, set-append-seam, length-append, add-one) (sym (append-assoc a (b ∷ []) (drop (suc (length a)) s)))
+
+-- the same, where the place is known by an equation
+pub overwrite-set-at : (a s : List ℕ) (b n : ℕ) → length a ≡ n → n < length s → set (overwrite a s) n b ≡ overwrite (a ++ (b ∷ [])) s
+overwrite-set-at a s b n e h = subst (λ (k : ℕ). set (overwrite a s) k b ≡ overwrite (a ++ (b ∷ [])) s) e (overwrite-set a s b (omega arith))
+
+-- a call that writes b over the front of the tail at the running total n, after a has been written
+pub overwrite-tail : (a b s : List ℕ) (n : ℕ) → length a ≡ n → take n (overwrite a s) ++ overwrite b (drop n (overwrite a s)) ≡ overwrite (a ++ b) s
+overwrite-tail a b s n e =
+    subst (λ (k : ℕ). take k (overwrite a s) ++ overwrite b (drop k (overwrite a s)) ≡ overwrite (a ++ b) s) e
+    (rw (take-overwrite a s, drop-overwrite a s) (sym (overwrite-step a b s)))

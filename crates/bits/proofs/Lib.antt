@@ -1,0 +1,5 @@
+pub mod Tests
+pub mod Sequences
+pub mod Bytes
+pub mod Numbers
+pub mod Bits
