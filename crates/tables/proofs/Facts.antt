@@ -1,0 +1,85 @@
+-- What the tests of a well-formed column say, taken apart once. Assumes nothing.
+use mathlib.Core.Path.{_≡_, refl}
+use mathlib.Core.Bool.{Bool, true, false, not, _||_, false≢true}
+use Prim.Native.Nat.{ℕ, zero, suc, _≤_, _<_}
+use native.Mathlib.Omega.{arith}
+use lib.Dec.{ltb}
+use lib.ListN.{length}
+use borrow.Author.Tests.{ltb-false}
+use Rattle.tables.specs.declared.table.Kind.{Kind}
+use Rattle.tables.specs.declared.table.Kind.the-variants.{Primitive, Boolean, VariableBytes, List as ListKind, FixedSizeList, FixedSizeBinary, Unknown}
+use Rattle.tables.specs.declared.table.Layout.{Layout}
+use Rattle.tables.specs.declared.table.Layout.the-variants.{Blocks, Bits, Runs}
+use Rattle.tables.specs.Kinds.{layoutOf, isWidth, isOffsetWidth}
+use Rattle.tables.specs.Columns.{Column, kindAt, layoutAt}
+use Rattle.tables.specs.Answers.{accept, firstOf}
+use Rattle.tables.specs.Refusals.{maxRows, maxBytes, badKind, usedOverLimit, validityOverLimit, overLimit, valuesShort, validityShort, tooShort, hasBadOffset, columnForm, columnLines, columnRefusal, WellFormed}
+use Rattle.bits.proofs.Tests.{or-false, not-false}
+use Rattle.tables.proofs.Lines.{none-met}
+
+-- ---- what a layout asks of the kind
+
+abbrev pub RunKind : Layout → Column → Type 0
+RunKind (Blocks n) c = Unit {0}
+RunKind Bits c = Unit {0}
+RunKind (Runs u) c = (0 < u) × (isOffsetWidth (c .table .«offset_width») ≡ true)
+
+width-pos : (w : ℕ) → isWidth w ≡ true → 0 < w
+width-pos zero e = absurd (false≢true e)
+width-pos (suc w) e = omega arith
+
+pub run-kind : (k : Kind) (c : Column) → badKind k (c .table) ≡ false → RunKind (layoutOf k (c .table .width) (c .table .size)) c
+run-kind Primitive c e = tt
+run-kind Boolean c e = tt
+run-kind VariableBytes c e = (omega arith, not-false (isOffsetWidth (c .table .«offset_width»)) e)
+run-kind ListKind c e =
+    let p : (not (isWidth (c .table .width)) ≡ false) × (not (isOffsetWidth (c .table .«offset_width»)) ≡ false) = or-false (not (isWidth (c .table .width))) (not (isOffsetWidth (c .table .«offset_width»))) e in
+    (width-pos (c .table .width) (not-false (isWidth (c .table .width)) (p .0)), not-false (isOffsetWidth (c .table .«offset_width»)) (p .1))
+run-kind FixedSizeList c e = tt
+run-kind FixedSizeBinary c e = tt
+run-kind Unknown c e = tt
+
+-- ---- the tests of a column, taken apart
+
+-- no test of refusals 1 to 4 is met, at a kind and a layout
+pub record Formed (k : Kind) (l : Layout) (c : Column) : Type 0 where
+  pub goodKind : badKind k (c .table) ≡ false
+  pub rows : c .table .rows ≤ maxRows
+  pub values : length (c .values) ≤ maxBytes
+  pub validityLimit : validityOverLimit (length (c .validity)) (c .table .«validity_bit») ≡ false
+  pub number : usedOverLimit k (c .table) (length (c .offsets)) ≡ false
+  pub valuesFit : valuesShort l (c .table) (length (c .values)) (length (c .offsets)) ≡ false
+  pub validityFits : validityShort (length (c .validity)) (c .table .«validity_bit») (c .table .rows) ≡ false
+  pub goodOffsets : hasBadOffset l c ≡ false
+
+pub formed-by : (k : Kind) (l : Layout) (c : Column) → columnForm k l c .kind ≡ false → columnForm k l c .limit ≡ false → columnForm k l c .short ≡ false
+    → hasBadOffset l c ≡ false → Formed k l c
+formed-by k l c g h m o =
+    let A : Bool = ltb maxRows (c .table .rows) in
+    let B : Bool = ltb maxBytes (length (c .values)) in
+    let C : Bool = validityOverLimit (length (c .validity)) (c .table .«validity_bit») in
+    let N : Bool = usedOverLimit k (c .table) (length (c .offsets)) in
+    let S : Bool = valuesShort l (c .table) (length (c .values)) (length (c .offsets)) in
+    let W : Bool = validityShort (length (c .validity)) (c .table .«validity_bit») (c .table .rows) in
+    let p : ((A || B || C) ≡ false) × (N ≡ false) = or-false (A || B || C) N h in
+    let q : ((A || B) ≡ false) × (C ≡ false) = or-false (A || B) C (p .0) in
+    let r : (A ≡ false) × (B ≡ false) = or-false A B (q .0) in
+    let s : (S ≡ false) × (W ≡ false) = or-false S W m in
+    record {
+      goodKind = g;
+      rows = ltb-false maxRows (c .table .rows) (r .0);
+      values = ltb-false maxBytes (length (c .values)) (r .1);
+      validityLimit = q .1;
+      number = p .1;
+      valuesFit = s .0;
+      validityFits = s .1;
+      goodOffsets = o;
+    }
+
+pub formed : (c : Column) → WellFormed c → Formed (kindAt c) (layoutAt c) c
+unfolding columnRefusal
+formed c e =
+    let k : Kind = kindAt c in
+    let l : Layout = layoutAt c in
+    let met = none-met (columnLines k l c) (refl, (refl, (refl, (refl, tt)))) e in
+    formed-by k l c (met 0) (met 1) (met 2) (met 3)

@@ -1,0 +1,5 @@
+pub mod Kinds
+pub mod Columns
+pub mod Answers
+pub mod Refusals
+pub mod Rows

@@ -1,0 +1,3 @@
+// Well-formed tables (layer 2): descriptions of columns by value, and the tests of refusals 1 to 4.
+pub mod table; // table.rt: a table's and an index column's description, kinds and layouts
+pub mod refusal; // refusal.rt: what a stage answers
