@@ -5,16 +5,16 @@ use Prim.Native.Nat.{ℕ, zero, suc, _≤_, _<_}
 use native.Mathlib.Omega.{arith}
 use lib.Dec.{ltb}
 use lib.ListN.{length}
-use borrow.Author.Tests.{ltb-false}
+use borrow.Author.Tests.{ltb-false, le-ltb}
 use Rattle.tables.specs.declared.table.Kind.{Kind}
 use Rattle.tables.specs.declared.table.Kind.the-variants.{Primitive, Boolean, VariableBytes, List as ListKind, FixedSizeList, FixedSizeBinary, Unknown}
 use Rattle.tables.specs.declared.table.Layout.{Layout}
 use Rattle.tables.specs.declared.table.Layout.the-variants.{Blocks, Bits, Runs}
 use Rattle.tables.specs.Kinds.{layoutOf, isWidth, isOffsetWidth}
-use Rattle.tables.specs.Columns.{Column, kindAt, layoutAt}
+use Rattle.tables.specs.Columns.{Column, IndexColumn, kindAt, layoutAt}
 use Rattle.tables.specs.Answers.{accept, firstOf}
-use Rattle.tables.specs.Refusals.{maxRows, maxBytes, badKind, usedOverLimit, validityOverLimit, overLimit, valuesShort, validityShort, tooShort, hasBadOffset, columnForm, columnLines, columnRefusal, WellFormed}
-use Rattle.bits.proofs.Tests.{or-false, not-false}
+use Rattle.tables.specs.Refusals.{maxRows, maxBytes, badKind, usedOverLimit, validityOverLimit, overLimit, valuesShort, validityShort, tooShort, hasBadOffset, columnForm, indexForm, sizeLines, columnLines, formLines, columnRefusal, indexRefusal, formRefusal, WellFormed}
+use Rattle.bits.proofs.Tests.{or-false, false-or, not-false}
 use Rattle.tables.proofs.Lines.{none-met}
 
 -- ---- what a layout asks of the kind
@@ -83,3 +83,27 @@ formed c e =
     let l : Layout = layoutAt c in
     let met = none-met (columnLines k l c) (refl, (refl, (refl, (refl, tt)))) e in
     formed-by k l c (met 0) (met 1) (met 2) (met 3)
+
+-- the facts are no less than the tests
+module _ (k : Kind) (l : Layout) (c : Column) (f : Formed k l c) where
+  within-limits : columnForm k l c .limit ≡ false
+  within-limits =
+      false-or (false-or (false-or (le-ltb maxRows (c .table .rows) (f .rows)) (le-ltb maxBytes (length (c .values)) (f .values))) (f .validityLimit)) (f .number)
+
+  long-enough : columnForm k l c .short ≡ false
+  long-enough = false-or (f .valuesFit) (f .validityFits)
+
+  passed : firstOf (columnLines k l c) ≡ accept
+  passed = rw (f .goodKind, within-limits, long-enough, f .goodOffsets)
+
+  -- what refuses it with an index column is the index column alone
+  by-index : (x : IndexColumn) → firstOf (formLines k l c x) ≡ firstOf (sizeLines (indexForm x))
+  by-index x = rw (f .goodKind, within-limits, long-enough, f .goodOffsets)
+
+pub well-formed : (c : Column) → Formed (kindAt c) (layoutAt c) c → WellFormed c
+unfolding columnRefusal
+well-formed c f = passed (kindAt c) (layoutAt c) c f
+
+pub refused-by-index : (c : Column) (x : IndexColumn) → WellFormed c → formRefusal c x ≡ indexRefusal x
+unfolding formRefusal indexRefusal
+refused-by-index c x e = by-index (kindAt c) (layoutAt c) c (formed c e) x

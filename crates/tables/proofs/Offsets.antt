@@ -8,12 +8,14 @@ use lib.ListN.{length}
 use borrow.Author.Tests.{ltb-false, leb-false, lt-leb, eqb-true}
 use Rattle.bits.specs.Sequences.{sum, first}
 use Rattle.bits.specs.Numbers.{isNegative}
+use Rattle.tables.specs.declared.table.Kind.{Kind}
 use Rattle.tables.specs.declared.table.Layout.the-variants.{Runs}
 use Rattle.tables.specs.Kinds.{isOffsetWidth}
 use Rattle.tables.specs.Columns.{Column, offsetAt}
 use Rattle.tables.specs.Refusals.{maxBytes, isBadOffset, hasBadOffset}
 use Rattle.bits.proofs.Sequences.{first-before, first-none}
 use Rattle.bits.proofs.Tests.{or-false}
+use Rattle.tables.proofs.Facts.{RunKind, Formed}
 
 -- an offset that a buffer can hold is neither too large nor below 0
 pub wide : (w : ℕ) → isOffsetWidth w ≡ true → (maxBytes < 2 ^ (8 * w - 1)) × (maxBytes < 256 ^ w)
@@ -40,6 +42,15 @@ pub no-bad-offset : (u : ℕ) (c : Column) → ((i : ℕ) → i ≤ c .table .ro
 no-bad-offset u c h =
     lt-leb (first (suc (c .table .rows)) (isBadOffset u c)) (c .table .rows)
     (rw (first-none (suc (c .table .rows)) (isBadOffset u c) (λ i b. h i (omega arith))) (omega arith))
+
+pub run-facts : (k : Kind) (u : ℕ) (c : Column) → RunKind (Runs u) c → Formed k (Runs u) c → RunFacts u c
+run-facts k u c rk f = record {
+  unit = rk .0;
+  width = rk .1;
+  small = f .values;
+  fits = ltb-false (length (c .offsets)) (suc (c .table .rows) * c .table .«offset_width») (f .valuesFit);
+  good = good-offsets u c (f .goodOffsets);
+}
 
 module _ (u : ℕ) (c : Column) (r : RunFacts u c) where
   pub below : (i : ℕ) → i ≤ c .table .rows → offsetAt c i ≤ length (c .values) / u

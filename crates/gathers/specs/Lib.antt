@@ -1,0 +1,4 @@
+pub mod Taken
+pub mod Stored
+pub mod Gather
+pub mod Blank
