@@ -177,6 +177,16 @@ first-before (suc n) p i h = go (p zero) refl i h (first-before n (λ k. p (suc 
     go false e zero h r = e
     go false e (suc i) h r = r i (le-of-suc-le-suc h)
 
+-- the first that passes does
+pub first-passes : (n : ℕ) (p : ℕ → Bool) → first n p < n → p (first n p) ≡ true
+first-passes zero p h = absurd (not-suc-le-zero h)
+first-passes (suc n) p h = go (p zero) refl h (first-passes n (λ i. p (suc i)))
+  where
+    go : (b : Bool) → p zero ≡ b → cond b zero (suc (first n (λ i. p (suc i)))) < suc n → (first n (λ i. p (suc i)) < n → p (suc (first n (λ i. p (suc i)))) ≡ true)
+        → p (cond b zero (suc (first n (λ i. p (suc i))))) ≡ true
+    go true e h r = e
+    go false e h r = r (le-of-suc-le-suc h)
+
 -- none passes
 pub first-none : (n : ℕ) (p : ℕ → Bool) → ((i : ℕ) → i < n → p i ≡ false) → first n p ≡ n
 first-none zero p h = refl

@@ -9,7 +9,7 @@ use native.Mathlib.Omega.{arith}
 use lib.Dec.{ltb}
 use lib.ListN.{length, replicate, length-replicate}
 use borrow.Author.Tests.{ltb-false, le-ltb, lt-leb}
-use Rattle.gathers.proofs.Stages.{finish, gather-stages, finish-refused}
+use Rattle.gathers.proofs.Stages.{finish, gather-stages, finish-refused, in-range}
 use Rattle.gathers.proofs.Replaced.{validAt-with, validityOverLimit-with, validityShort-with, length-blocksWith, part-blocksWith}
 use Rattle.gathers.proofs.Runs.{values-le, offsets-length, entries-d, bytes-d, good-d}
 use Rattle.gathers.proofs.Reach.{taken-cong}
@@ -32,6 +32,7 @@ use Rattle.gathers.specs.Blank.{reached, maskRows, withRows, blank}
 use Rattle.bits.proofs.Bytes.{length-block}
 use Rattle.bits.proofs.Bits.{bit-test, length-replaceBits, bitAt-replaceBits}
 use Rattle.tables.proofs.Offsets.{RunFacts, run-facts, no-bad-offset}
+use Rattle.tables.proofs.Lines.{orElse-passes}
 use Rattle.tables.proofs.Facts.{RunKind, run-kind, Formed, formed, well-formed, refused-by-index}
 
 -- ---- tests of the description
@@ -142,22 +143,6 @@ module _ (k : Kind) (un : Bool) (c : Column) (keep : ℕ → Bool) where
 
 -- ---- the theorem
 
--- past the range test each valid index is in range
-in-range : (n : ℕ) (x : IndexColumn) → passes (rangeRefusal n x) ≡ true → ltb (outOfRange n x) (x .indices .count) ≡ false
-unfolding rangeRefusal
-in-range n x = go (ltb (outOfRange n x) (x .indices .count))
-  where
-    go : (t : Bool) → passes (cond t (refuse 5 (outOfRange n x) 0) accept) ≡ true → t ≡ false
-    go true e = absurd (false≢true e)
-    go false e = refl
-
-both-pass : (a b : Answer) → passes (a orElse b) ≡ true → (passes a ≡ true) × (passes b ≡ true)
-both-pass a b e = go (passes a) refl e
-  where
-    go : (t : Bool) → passes a ≡ t → passes (cond t b a) ≡ true → (passes a ≡ true) × (passes b ≡ true)
-    go true d e = (d, e)
-    go false d e = absurd (false≢true (sym d ∙ e))
-
 -- the blanked column is well-formed
 pub blank-well-formed : (c : Column) (x : IndexColumn) → WellFormed c → WellFormed (blank c x)
 unfolding blank rowsOf kindAt layoutAt
@@ -184,7 +169,7 @@ gather-blank c x o e =
     let same : (t : Bool) → passes a ≡ t → finish a (takeRows v x) o ≡ finish a (takeRows w x) o =
     elim [
       | true ↦ λ h.
-          let p : (passes (indexRefusal x) ≡ true) × (passes (rangeRefusal (c .table .rows) x) ≡ true) = both-pass (indexRefusal x) (rangeRefusal (c .table .rows) x) h in
+          let p : (passes (indexRefusal x) ≡ true) × (passes (rangeRefusal (c .table .rows) x) ≡ true) = orElse-passes (indexRefusal x) (rangeRefusal (c .table .rows) x) h in
           taken-cong v x (p .0) (valid-stays k un c keep l rk wf) (r .entriesStay) (r .bytesStay) (in-range (c .table .rows) x (p .1)) a o
       | false ↦ λ h. finish-refused a (takeRows v x) (takeRows w x) o h
     ] in

@@ -7,3 +7,4 @@ pub mod Blanked
 pub mod Regular
 pub mod ReadBack
 pub mod Nulls
+pub mod Cases

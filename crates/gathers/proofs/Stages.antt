@@ -1,16 +1,18 @@
 -- The gather stage by stage, as code goes: refusals 1 to 4, 5, 6, 7, and the storing. Assumes nothing.
 use mathlib.Core.Path.{_≡_, refl, _∙_}
-use mathlib.Core.Bool.{Bool, true, false, cond}
+use mathlib.Core.Bool.{Bool, true, false, cond, false≢true}
 use mathlib.Core.List.{List, _++_}
+use Prim.Native.Nat.{ℕ}
+use lib.Dec.{ltb}
 use Rattle.tables.specs.declared.refusal.Answer.{Answer}
 use Rattle.tables.specs.Columns.{Column, IndexColumn, kindAt, layoutAt}
-use Rattle.tables.specs.Answers.{passes, _orElse_, Line, firstOf}
+use Rattle.tables.specs.Answers.{refuse, accept, passes, _orElse_, Line, firstOf}
 use Rattle.tables.specs.Refusals.{formLines, formRefusal}
 use Rattle.tables.specs.Rows.{Rows, rowsOf}
 use Rattle.gathers.specs.Taken.{takeRows}
 use Rattle.gathers.specs.Stored.{Output, store}
-use Rattle.gathers.specs.Gather.{rangeLines, overflowLines, spaceLines, rangeRefusal, overflowRefusal, spaceRefusal, refusals, Outcome, gathered, conclude, gather}
-use Rattle.tables.proofs.Lines.{Refusing, firstOf-append, refusing-append}
+use Rattle.gathers.specs.Gather.{outOfRange, rangeLines, overflowLines, spaceLines, rangeRefusal, overflowRefusal, spaceRefusal, refusals, Outcome, gathered, conclude, gather}
+use Rattle.tables.proofs.Lines.{Refusing, firstOf-append, refusing-append, orElse-passes}
 
 -- the rows v, after the tests before overflow gave a
 unfoldable pub finish : Answer → Rows → Output → Outcome
@@ -64,3 +66,31 @@ module _ (a : Answer) (v : Rows) (o : Output) where
 pub finish-refused : (a : Answer) (v w : Rows) (o : Output) → passes a ≡ false → finish a v o ≡ finish a w o
 unfolding finish
 finish-refused a v w o e = rw (e, e, e)
+
+-- past the range test each valid index is in range
+pub in-range : (n : ℕ) (x : IndexColumn) → passes (rangeRefusal n x) ≡ true → ltb (outOfRange n x) (x .indices .count) ≡ false
+unfolding rangeRefusal
+in-range n x = go (ltb (outOfRange n x) (x .indices .count))
+  where
+    go : (t : Bool) → passes (cond t (refuse 5 (outOfRange n x) 0) accept) ≡ true → t ≡ false
+    go true e = absurd (false≢true e)
+    go false e = refl
+
+-- every stage lets pass
+pub record Passed (c : Column) (x : IndexColumn) (o : Output) : Type 0 where
+  pub form : passes (formRefusal c x) ≡ true
+  pub range : passes (rangeRefusal (c .table .rows) x) ≡ true
+  pub overflow : passes (overflowRefusal (takeRows (rowsOf c) x)) ≡ true
+  pub space : passes (spaceRefusal (takeRows (rowsOf c) x) o) ≡ true
+
+pub all-passed : (c : Column) (x : IndexColumn) (o : Output) → passes (firstOf (refusals c x o)) ≡ true → Passed c x o
+all-passed c x o e =
+    let v : Rows = takeRows (rowsOf c) x in
+    let f : Answer = formRefusal c x in
+    let r : Answer = rangeRefusal (c .table .rows) x in
+    let w : Answer = overflowRefusal v in
+    let s : Answer = spaceRefusal v o in
+    let p : (passes (f orElse r orElse w) ≡ true) × (passes s ≡ true) = orElse-passes (f orElse r orElse w) s (rw (by-stages c x o) at e) in
+    let q : (passes (f orElse r) ≡ true) × (passes w ≡ true) = orElse-passes (f orElse r) w (p .0) in
+    let t : (passes f ≡ true) × (passes r ≡ true) = orElse-passes f r (q .0) in
+    record { form = t .0; range = t .1; overflow = q .1; space = p .1 }

@@ -12,10 +12,10 @@ use Rattle.tables.specs.declared.table.Layout.{Layout}
 use Rattle.tables.specs.declared.table.Layout.the-variants.{Blocks, Bits, Runs}
 use Rattle.tables.specs.Kinds.{layoutOf, isWidth, isOffsetWidth}
 use Rattle.tables.specs.Columns.{Column, IndexColumn, kindAt, layoutAt}
-use Rattle.tables.specs.Answers.{accept, firstOf}
-use Rattle.tables.specs.Refusals.{maxRows, maxBytes, badKind, usedOverLimit, validityOverLimit, overLimit, valuesShort, validityShort, tooShort, hasBadOffset, columnForm, indexForm, sizeLines, columnLines, formLines, columnRefusal, indexRefusal, formRefusal, WellFormed}
+use Rattle.tables.specs.Answers.{accept, passes, firstOf}
+use Rattle.tables.specs.Refusals.{maxRows, maxBytes, badKind, usedOverLimit, validityOverLimit, overLimit, valuesShort, validityShort, tooShort, hasBadOffset, Form, columnForm, indexForm, sizeLines, columnLines, formLines, columnRefusal, indexRefusal, formRefusal, WellFormed}
 use Rattle.bits.proofs.Tests.{or-false, false-or, not-false}
-use Rattle.tables.proofs.Lines.{none-met}
+use Rattle.tables.proofs.Lines.{none-met, none-met-passes}
 
 -- ---- what a layout asks of the kind
 
@@ -107,3 +107,17 @@ well-formed c f = passed (kindAt c) (layoutAt c) c f
 pub refused-by-index : (c : Column) (x : IndexColumn) → WellFormed c → formRefusal c x ≡ indexRefusal x
 unfolding formRefusal indexRefusal
 refused-by-index c x e = by-index (kindAt c) (layoutAt c) c (formed c e) x
+
+-- a column that passes with an index column is well-formed, and the index column passes by itself
+pub form-passed : (c : Column) (x : IndexColumn) → passes (formRefusal c x) ≡ true → WellFormed c × (passes (indexRefusal x) ≡ true)
+unfolding formRefusal columnRefusal indexRefusal
+form-passed c x e =
+    let k : Kind = kindAt c in
+    let l : Layout = layoutAt c in
+    let f : Form = columnForm k l c in
+    let g : Form = indexForm x in
+    let met = none-met-passes (formLines k l c x) (refl, (refl, (refl, (refl, tt)))) e in
+    let a : (f .kind ≡ false) × (g .kind ≡ false) = or-false (f .kind) (g .kind) (met 0) in
+    let b : (f .limit ≡ false) × (g .limit ≡ false) = or-false (f .limit) (g .limit) (met 1) in
+    let s : (f .short ≡ false) × (g .short ≡ false) = or-false (f .short) (g .short) (met 2) in
+    (passed k l c (formed-by k l c (a .0) (b .0) (s .0) (met 3)), rw (a .1, b .1, s .1))

@@ -1,5 +1,6 @@
 -- The rows of a column, by the Arrow Columnar Format: a row is valid or null, and has bytes. This is all that a gather may look at.
-use Prim.Native.Nat.{ℕ, suc, _+_, _-_, _*_}
+use Prim.Native.Nat.{ℕ, suc, _+_, _-_, _*_, _<_}
+use mathlib.Core.Path.{_≡_}
 use mathlib.Core.Bool.{Bool}
 use mathlib.Core.List.{List, [], _∷_}
 use lib.ListN.{replicate}
@@ -61,3 +62,9 @@ abbrev pub emptyRow : Layout → List ℕ
 emptyRow (Blocks n) = replicate n 0
 emptyRow Bits = 0 ∷ []
 emptyRow (Runs u) = []
+
+-- v shows the same rows as w: as many, with the same nulls and bytes
+pub record ReadsAs (v w : Rows) : Type 0 where
+  pub count : v .count ≡ w .count
+  pub valid : (i : ℕ) → i < w .count → v .valid i ≡ w .valid i
+  pub bytes : (i : ℕ) → i < w .count → v .bytes i ≡ w .bytes i
