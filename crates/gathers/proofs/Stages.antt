@@ -1,18 +1,18 @@
 -- The gather stage by stage, as code goes: refusals 1 to 4, 5, 6, 7, and the storing. Assumes nothing.
-use mathlib.Core.Path.{_≡_, refl, _∙_}
-use mathlib.Core.Bool.{Bool, true, false, cond, false≢true}
+use mathlib.Core.Path.{_≡_, refl}
+use mathlib.Core.Bool.{true, false}
 use mathlib.Core.List.{List, _++_}
 use Prim.Native.Nat.{ℕ}
 use lib.Dec.{ltb}
-use Rattle.tables.specs.declared.refusal.Answer.{Answer}
 use Rattle.tables.specs.Columns.{Column, IndexColumn, kindAt, layoutAt}
-use Rattle.tables.specs.Answers.{refuse, accept, passes, _orElse_, Line, firstOf}
+use Rattle.tables.specs.Answers.{passes, _orElse_, firstOf, Line}
 use Rattle.tables.specs.Refusals.{formLines, formRefusal}
 use Rattle.tables.specs.Rows.{Rows, rowsOf}
+use Rattle.tables.specs.declared.refusal.Answer.{Answer}
 use Rattle.gathers.specs.Taken.{takeRows}
 use Rattle.gathers.specs.Stored.{Output, store}
-use Rattle.gathers.specs.Gather.{outOfRange, rangeLines, overflowLines, spaceLines, rangeRefusal, overflowRefusal, spaceRefusal, refusals, Outcome, gathered, conclude, gather}
-use Rattle.tables.proofs.Lines.{Refusing, firstOf-append, refusing-append, orElse-passes}
+use Rattle.gathers.specs.Gather.{outOfRange, rangeLines, overflowAt, overflowLines, spaceLines, rangeRefusal, overflowRefusal, spaceRefusal, refusals, Outcome, gathered, conclude, gather}
+use Rattle.tables.proofs.Lines.{Refusing, firstOf-append, refusing-append, none-met-passes, orElse-passes}
 
 -- the rows v, after the tests before overflow gave a
 unfoldable pub finish : Answer → Rows → Output → Outcome
@@ -70,11 +70,12 @@ finish-refused a v w o e = rw (e, e, e)
 -- past the range test each valid index is in range
 pub in-range : (n : ℕ) (x : IndexColumn) → passes (rangeRefusal n x) ≡ true → ltb (outOfRange n x) (x .indices .count) ≡ false
 unfolding rangeRefusal
-in-range n x = go (ltb (outOfRange n x) (x .indices .count))
-  where
-    go : (t : Bool) → passes (cond t (refuse 5 (outOfRange n x) 0) accept) ≡ true → t ≡ false
-    go true e = absurd (false≢true e)
-    go false e = refl
+in-range n x e = none-met-passes (rangeLines n x) (refl, tt) e 0
+
+-- past the overflow test no row is an overflow's place
+pub no-overflow : (v : Rows) → passes (overflowRefusal v) ≡ true → ltb (overflowAt (v .layout) v) (v .count) ≡ false
+unfolding overflowRefusal
+no-overflow v e = none-met-passes (overflowLines v) (refl, tt) e 0
 
 -- every stage lets pass
 pub record Passed (c : Column) (x : IndexColumn) (o : Output) : Type 0 where

@@ -1,7 +1,7 @@
 -- What the tests of a well-formed column say, taken apart once. Assumes nothing.
 use mathlib.Core.Path.{_≡_, refl}
 use mathlib.Core.Bool.{Bool, true, false, not, _||_, false≢true}
-use Prim.Native.Nat.{ℕ, zero, suc, _≤_, _<_}
+use Prim.Native.Nat.{ℕ, zero, suc, _*_, _≤_, _<_}
 use native.Mathlib.Omega.{arith}
 use lib.Dec.{ltb}
 use lib.ListN.{length}
@@ -10,7 +10,7 @@ use Rattle.tables.specs.declared.table.Kind.{Kind}
 use Rattle.tables.specs.declared.table.Kind.the-variants.{Primitive, Boolean, VariableBytes, List as ListKind, FixedSizeList, FixedSizeBinary, Unknown}
 use Rattle.tables.specs.declared.table.Layout.{Layout}
 use Rattle.tables.specs.declared.table.Layout.the-variants.{Blocks, Bits, Runs}
-use Rattle.tables.specs.Kinds.{layoutOf, isWidth, isOffsetWidth}
+use Rattle.tables.specs.Kinds.{layoutOf, isWidth, isOffsetWidth, isIndexWidth}
 use Rattle.tables.specs.Columns.{Column, IndexColumn, kindAt, layoutAt}
 use Rattle.tables.specs.Answers.{accept, passes, firstOf}
 use Rattle.tables.specs.Refusals.{maxRows, maxBytes, badKind, usedOverLimit, validityOverLimit, overLimit, valuesShort, validityShort, tooShort, hasBadOffset, Form, columnForm, indexForm, sizeLines, columnLines, formLines, columnRefusal, indexRefusal, formRefusal, WellFormed}
@@ -121,3 +121,34 @@ form-passed c x e =
     let b : (f .limit ≡ false) × (g .limit ≡ false) = or-false (f .limit) (g .limit) (met 1) in
     let s : (f .short ≡ false) × (g .short ≡ false) = or-false (f .short) (g .short) (met 2) in
     (passed k l c (formed-by k l c (a .0) (b .0) (s .0) (met 3)), rw (a .1, b .1, s .1))
+
+-- ---- the tests of an index column, taken apart
+
+pub record IndexFormed (x : IndexColumn) : Type 0 where
+  pub width : isIndexWidth (x .indices .width) ≡ true
+  pub count : x .indices .count ≤ maxRows
+  pub values : length (x .values) ≤ maxBytes
+  pub validityLimit : validityOverLimit (length (x .validity)) (x .indices .«validity_bit») ≡ false
+  pub valuesFit : x .indices .count * x .indices .width ≤ length (x .values)
+  pub validityFits : validityShort (length (x .validity)) (x .indices .«validity_bit») (x .indices .count) ≡ false
+
+pub index-formed : (x : IndexColumn) → passes (indexRefusal x) ≡ true → IndexFormed x
+unfolding indexRefusal
+index-formed x e =
+    let met = none-met-passes (sizeLines (indexForm x)) (refl, (refl, (refl, tt))) e in
+    let A : Bool = ltb maxRows (x .indices .count) in
+    let B : Bool = ltb maxBytes (length (x .values)) in
+    let C : Bool = validityOverLimit (length (x .validity)) (x .indices .«validity_bit») in
+    let p : ((A || B) ≡ false) × (C ≡ false) = or-false (A || B) C (met 1) in
+    let q : (A ≡ false) × (B ≡ false) = or-false A B (p .0) in
+    let S : Bool = ltb (length (x .values)) (x .indices .count * x .indices .width) in
+    let W : Bool = validityShort (length (x .validity)) (x .indices .«validity_bit») (x .indices .count) in
+    let s : (S ≡ false) × (W ≡ false) = or-false S W (met 2) in
+    record {
+      width = not-false (isIndexWidth (x .indices .width)) (met 0);
+      count = ltb-false maxRows (x .indices .count) (q .0);
+      values = ltb-false maxBytes (length (x .values)) (q .1);
+      validityLimit = p .1;
+      valuesFit = ltb-false (length (x .values)) (x .indices .count * x .indices .width) (s .0);
+      validityFits = s .1;
+    }

@@ -2,7 +2,7 @@
 use mathlib.Core.Path.{_≡_, refl}
 use mathlib.Core.Bool.{Bool}
 use Prim.Native.Nat.{ℕ, suc, _+_, _-_, _*_, _/_, _≤_, _<_}
-use native.Mathlib.Nat.{le-trans, mul-le-mul-right, div-mul-le-self, add-mul}
+use native.Mathlib.Nat.{le-trans, mul-le-mul-right, div-mul-le-self, div-le-self, add-mul}
 use native.Mathlib.Omega.{arith}
 use lib.Dec.{ltb}
 use lib.ListN.{length}
@@ -11,6 +11,7 @@ use Rattle.tables.specs.declared.table.Kind.{Kind}
 use Rattle.tables.specs.declared.table.Layout.{Layout}
 use Rattle.tables.specs.declared.table.Layout.the-variants.{Blocks, Bits, Runs}
 use Rattle.tables.specs.Columns.{Column, offsetAt}
+use Rattle.tables.specs.Refusals.{maxBytes}
 use Rattle.tables.specs.Rows.{Rows, rowBytes, rowsBy}
 use Rattle.bits.proofs.Bytes.{length-part, length-block}
 use Rattle.tables.proofs.Facts.{RunKind, Formed}
@@ -39,3 +40,7 @@ regular-column k un (Blocks n) c rk f i h =
     length-block (c .values) (c .table .rows) n (ltb-false (length (c .values)) (c .table .rows * n) (f .valuesFit)) i h
 regular-column k un Bits c rk f i h = refl
 regular-column k un (Runs u) c rk f i h = run-length u c (run-facts k u c rk f) i h
+
+-- a row has no more entries than a buffer has bytes
+pub run-entries : (u : ℕ) (c : Column) → RunFacts u c → (i : ℕ) → i < c .table .rows → offsetAt c (suc i) - offsetAt c i ≤ maxBytes
+run-entries u c r i h = omega (arith, below u c r (suc i) h, div-le-self (length (c .values)) u, r .small)
