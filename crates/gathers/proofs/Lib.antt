@@ -8,3 +8,4 @@ pub mod Regular
 pub mod ReadBack
 pub mod Nulls
 pub mod Cases
+pub mod Trials

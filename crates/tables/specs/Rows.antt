@@ -28,6 +28,12 @@ rowBytes (Blocks n) c i = part (i * n) n (c .values)
 rowBytes Bits c i = bitValue (bitAt (c .values) (c .table .«data_bit» + i)) ∷ []
 rowBytes (Runs u) c i = part (offsetAt c i * u) ((offsetAt c (suc i) - offsetAt c i) * u) (c .values)
 
+-- its length in entries, where it has one of its own
+abbrev pub rowEntries : Layout → Column → ℕ → ℕ
+rowEntries (Blocks n) c i = 0
+rowEntries Bits c i = 0
+rowEntries (Runs u) c i = offsetAt c (suc i) - offsetAt c i
+
 -- the rows of c, read by a layout
 abbrev pub rowsBy : Kind → Bool → Layout → Column → Rows
 rowsBy k underNull l c = record {
@@ -37,7 +43,7 @@ rowsBy k underNull l c = record {
   offsetWidth = c .table .«offset_width»;
   count = c .table .rows;
   valid = λ i. validAt (c .validity) (c .table .«validity_bit») i;
-  entries = λ i. offsetAt c (suc i) - offsetAt c i;
+  entries = λ i. rowEntries l c i;
   bytes = λ i. rowBytes l c i;
 }
 
