@@ -1,12 +1,12 @@
 -- Laws of parts and of overwritten buffers (specs/Bytes.antt), in the form that loops ask for. Assumes nothing.
 use mathlib.Core.Path.{_≡_, refl, sym, ap, _∙_, subst}
 use mathlib.Core.List.{List, [], _∷_, _++_, append-assoc}
-use Prim.Native.Nat.{ℕ, suc, _+_, _*_, _≤_, _<_}
+use Prim.Native.Nat.{ℕ, suc, _+_, _-_, _*_, _≤_, _<_}
 use native.Mathlib.Nat.{mul-le-mul-right}
 use native.Mathlib.Numerals.{add-one}
 use native.Mathlib.Omega.{arith}
-use lib.ListN.{length, take, drop, set, length-append, length-drop}
-use lib.Seq.{length-take-le, drop-cons, take-at, drop-at, drop-drop, take-take, take-add, set-append-seam, sets, sets-eq}
+use lib.ListN.{length, take, drop, set, length-append, length-drop, take-append-drop}
+use lib.Seq.{length-take-le, drop-cons, take-at, drop-at, drop-drop, take-take, take-add, take-append-le, take-length, set-append-seam, sets, sets-eq}
 use Rattle.bits.specs.Bytes.{part, overwrite, overwriteAt}
 
 -- ---- lengths
@@ -81,3 +81,40 @@ stores-sets p (b ∷ e) s = stores-sets (p + 1) e (set s p b) ∙ rw add-one
 pub stores-overwriteAt : (p : ℕ) (e s : List ℕ) → p + length e ≤ length s → stores p e s ≡ overwriteAt p e s
 stores-overwriteAt p e s h =
     stores-sets p e s ∙ sets-eq e s p h ∙ append-assoc (take p s) e (drop (p + length e) s) ∙ rw (← drop-drop (length e) p s)
+
+-- ---- copies, in pieces that may overlap
+
+-- the bytes from p on, after those before p
+pub copy-more : (p n : ℕ) (s d : List ℕ) → p ≤ length s → overwriteAt p (part p n s) (overwrite (take p s) d) ≡ overwrite (take (p + n) s) d
+copy-more p n s d h = overwrite-tail (take p s) (part p n s) d p (length-take-le p s h) ∙ rw (take-add p n s)
+
+-- what is copied already may be copied again
+pub copy-again : (p k : ℕ) (s d : List ℕ) → p ≤ k → k ≤ length s → overwrite (take k s) d ≡ overwrite (take p s) (overwrite (take k s) d)
+copy-again p k s d h l =
+    let lk : length (take k s) ≡ k = length-take-le k s l in
+    let lp : length (take p s) ≡ p = length-take-le p s (omega arith) in
+    let e : take p (overwrite (take k s) d) ≡ take p s = take-append-le p (take k s) (drop (length (take k s)) d) (omega arith) ∙ take-take p k s h in
+    sym (take-append-drop p (overwrite (take k s) d)) ∙ rw (e, lp)
+
+-- a whole copy does not see what a part of it has written
+pub copy-whole : (k : ℕ) (s d : List ℕ) → k ≤ length s → overwrite s (overwrite (take k s) d) ≡ overwrite s d
+copy-whole k s d l =
+    let lk : length (take k s) ≡ k = length-take-le k s l in
+    let j : ℕ = length s - k in
+    let e : length s ≡ k + j = omega arith in
+    ap (λ (t : List ℕ). s ++ t)
+    (ap (λ (n : ℕ). drop n (overwrite (take k s) d)) e
+    ∙ sym (drop-drop j k (overwrite (take k s) d))
+    ∙ ap (drop j) (drop-at (take k s) (drop (length (take k s)) d) k lk ∙ rw lk)
+    ∙ drop-drop j k d
+    ∙ ap (λ (n : ℕ). drop n d) (sym e))
+
+-- the last n bytes, after the first k, wherever the two meet
+pub copy-last : (n k : ℕ) (s d : List ℕ) → n ≤ length s → length s ≤ k + n → k ≤ length s
+    → overwriteAt (length s - n) (part (length s - n) n s) (overwrite (take k s) d) ≡ overwrite s d
+copy-last n k s d h m l =
+    let p : ℕ = length s - n in
+    let e : p + n ≡ length s = omega arith in
+    ap (overwriteAt p (part p n s)) (copy-again p k s d (omega arith) l)
+    ∙ copy-more p n s (overwrite (take k s) d) (omega arith)
+    ∙ rw (e, take-length) (copy-whole k s d l)

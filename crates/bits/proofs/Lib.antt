@@ -3,3 +3,4 @@ pub mod Sequences
 pub mod Bytes
 pub mod Numbers
 pub mod Bits
+pub mod Copies
