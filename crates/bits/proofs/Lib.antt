@@ -4,3 +4,4 @@ pub mod Bytes
 pub mod Numbers
 pub mod Bits
 pub mod Copies
+pub mod Words
