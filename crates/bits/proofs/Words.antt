@@ -21,7 +21,7 @@ use Rattle.bits.specs.Numbers.{littleEndian, toLittleEndian}
 use Rattle.bits.specs.Bits.{bitValue, bitAt, setBits, byteOf, packBytes}
 use Rattle.bits.proofs.Sequences.{sum-cong, sum-head, sum-add, sum-le, sum-const}
 use Rattle.bits.proofs.Numbers.{AllBytes, littleEndian-lt, littleEndian-from, littleEndian-halves, numberFrom, toLittleEndian-halves}
-use Rattle.bits.proofs.Bits.{bitValue-lt, bit-value, packBytes-cong}
+use Rattle.bits.proofs.Bits.{bitValue-lt, bit-value, packBytes-cong, byteOf-cong}
 
 -- bit j of a number
 unfoldable pub bitOf : ℕ → ℕ → Bool
@@ -54,10 +54,6 @@ bits-sum (suc m) y = rw (bits-sum m y, bit-value (y / 2 ^ m), ← one-add m, mod
 byteOf-bits : (y : ℕ) → byteOf (bitOf y) ≡ y % 256
 unfolding byteOf
 byteOf-bits y = bits-sum 8 y
-
-byteOf-cong : {f g : ℕ → Bool} → ((j : ℕ) → j < 8 → f j ≡ g j) → byteOf f ≡ byteOf g
-unfolding byteOf
-byteOf-cong h = sum-cong 8 (λ j l. ap (λ (t : Bool). bitValue t * 2 ^ j) (h j l))
 
 -- ---- the ones of a number are its bits
 
