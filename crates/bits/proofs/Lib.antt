@@ -3,3 +3,5 @@ pub mod Sequences
 pub mod Bytes
 pub mod Numbers
 pub mod Bits
+pub mod Copies
+pub mod Words

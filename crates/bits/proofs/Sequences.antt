@@ -2,7 +2,7 @@
 use mathlib.Core.Path.{_≡_, refl, sym, _∙_, subst}
 use mathlib.Core.Logic.{_⊎_, inl, inr}
 use mathlib.Core.Bool.{Bool, true, false, cond, _||_, false≢true}
-use mathlib.Core.List.{List, [], _∷_, _++_}
+use mathlib.Core.List.{List, [], _∷_, _++_, append-assoc, append-nil}
 use Prim.Native.Nat.{ℕ, zero, suc, _+_, _-_, _*_, _≤_, _<_}
 use native.Mathlib.Nat.{add-zero, add-suc, add-assoc, mul-zero, not-suc-le-zero, le-of-suc-le-suc, eq-or-lt-of-le, add-mul, zero-mul, suc-mul, mul-one, le-refl, zero-lt-suc}
 use native.Mathlib.Omega.{arith}
@@ -44,6 +44,10 @@ first-cong (suc n) {p} {q} h =
     cc
 
 -- ---- lengths and sums
+
+pub concat-add : (n m : ℕ) (f : ℕ → List ℕ) → concat (n + m) f ≡ concat n f ++ concat m (λ j. f (n + j))
+concat-add n zero f = rw add-zero (sym (append-nil (concat n f)))
+concat-add n (suc m) f = rw (add-suc, concat-add n m f, append-assoc)
 
 pub length-concat : (n : ℕ) (f : ℕ → List ℕ) → length (concat n f) ≡ sum n (λ i. length (f i))
 length-concat zero f = refl
