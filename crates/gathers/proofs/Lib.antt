@@ -9,3 +9,4 @@ pub mod ReadBack
 pub mod Nulls
 pub mod Cases
 pub mod Trials
+pub mod Needed

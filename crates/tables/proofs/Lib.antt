@@ -2,3 +2,4 @@ pub mod Lines
 pub mod Facts
 pub mod Offsets
 pub mod Rows
+pub mod Needed

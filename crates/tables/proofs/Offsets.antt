@@ -13,7 +13,7 @@ use Rattle.tables.specs.declared.table.Layout.the-variants.{Runs}
 use Rattle.tables.specs.Kinds.{isOffsetWidth}
 use Rattle.tables.specs.Columns.{Column, offsetAt}
 use Rattle.tables.specs.Refusals.{maxBytes, isBadOffset, hasBadOffset}
-use Rattle.bits.proofs.Sequences.{first-before, first-none}
+use Rattle.bits.proofs.Sequences.{first-before, first-none, sum-mono}
 use Rattle.bits.proofs.Tests.{or-false}
 use Rattle.tables.proofs.Facts.{RunKind, Formed}
 
@@ -68,3 +68,6 @@ module _ (u : ℕ) (c : Column) (r : RunFacts u c) where
   pub telescope : (i : ℕ) → i ≤ c .table .rows → sum i (λ k. offsetAt c (suc k) - offsetAt c k) + offsetAt c 0 ≡ offsetAt c i
   telescope zero h = omega arith
   telescope (suc i) h = omega (arith, telescope i (omega arith), rises i h)
+
+  pub offsets-mono : (i j : ℕ) → i ≤ j → j ≤ c .table .rows → offsetAt c i ≤ offsetAt c j
+  offsets-mono i j h l = omega (arith, telescope i (omega arith), telescope j l, sum-mono j (λ k. offsetAt c (suc k) - offsetAt c k) h)

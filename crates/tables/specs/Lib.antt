@@ -3,3 +3,4 @@ pub mod Columns
 pub mod Answers
 pub mod Refusals
 pub mod Rows
+pub mod Needed
