@@ -10,3 +10,4 @@ pub mod Nulls
 pub mod Cases
 pub mod Trials
 pub mod Needed
+pub mod Trial10
