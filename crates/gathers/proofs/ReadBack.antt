@@ -1,5 +1,5 @@
 -- The round trip: rows that are stored are read back from the output buffers. Assumes nothing.
-use mathlib.Core.Path.{_≡_, refl, ap, _∙_}
+use mathlib.Core.Path.{_≡_, refl, sym, ap, _∙_}
 use mathlib.Core.Bool.{Bool, true, false, cond, _||_}
 use mathlib.Core.List.{List, [], _∷_}
 use Prim.Native.Nat.{ℕ, zero, suc, _-_, _+_, _*_, _^_, _≤_, _<_}
@@ -10,6 +10,7 @@ use lib.Dec.{eqb, ltb, lit<}
 use borrow.Author.Tests.{ne-eqb, ltb-false, eqb-true}
 use Rattle.bits.specs.Sequences.{concat, first}
 use Rattle.bits.specs.Bytes.{overwrite}
+use Rattle.bits.specs.Numbers.{numberAt}
 use Rattle.bits.specs.Bits.{bitValue, bitAt, pack, isAbsent, validAt}
 use Rattle.tables.specs.Kinds.{kindOf, layoutOf, isOffsetWidth, copiesUnderNull}
 use Rattle.tables.specs.Columns.{Column, IndexColumn, kindAt, layoutAt, offsetAt, index}
@@ -40,7 +41,7 @@ storedColumn l c v o = record {
     kind = c .table .kind;
     width = c .table .width;
     size = c .table .size;
-    «offset_width» = v .offsetWidth;
+    «offset_width» = c .table .«offset_width»;
     rows = v .count;
     «data_bit» = 0;
     «validity_bit» = 0;
@@ -70,11 +71,12 @@ module _ (k : Kind) (un : Bool) (c : Column) (v : Rows) (o : Output) where
   unfolding valueBytes
   bits-back i h = ap (λ (b : Bool). bitValue b ∷ []) (bitAt-stored (v .count) (λ j. isSet (v .bytes j)) (o .values) i h)
 
-  module _ (u : ℕ) (small : startOf v (v .count) < 256 ^ (v .offsetWidth)) where
+  module _ (u : ℕ) (width : v .offsetWidth ≡ c .table .«offset_width») (small : startOf v (v .count) < 256 ^ (v .offsetWidth)) where
     pub offset-back : (i : ℕ) → i ≤ v .count → offsetAt (storedColumn (Runs u) c v o) i ≡ startOf v i
     unfolding offsetAt offsetBytes startOf
     offset-back i h =
-        numberAt-concat (v .offsetWidth) (suc (v .count)) (startOf v) (drop (length (offsetBytes v)) (o .offsets)) i (omega arith)
+        ap (λ (w : ℕ). numberAt w (storedColumn (Runs u) c v o .offsets) i) (sym width)
+        ∙ numberAt-concat (v .offsetWidth) (suc (v .count)) (startOf v) (drop (length (offsetBytes v)) (o .offsets)) i (omega arith)
         (lt-of-le-of-lt (sum-mono (v .count) (v .entries) h) small)
 
     pub entries-back : (i : ℕ) → i < v .count → rowsBy k un (Runs u) (storedColumn (Runs u) c v o) .entries i ≡ v .entries i
@@ -89,16 +91,17 @@ module _ (k : Kind) (un : Bool) (c : Column) (v : Rows) (o : Output) where
 
 -- ---- all layouts at once
 
--- rows that can be stored and read back: they are as long as the layout says, and their offsets fit their width
-abbrev pub Storable : Layout → Rows → Type 0
-Storable (Blocks n) v = (i : ℕ) → i < v .count → length (v .bytes i) ≡ n
-Storable Bits v = (i : ℕ) → i < v .count → bitValue (isSet (v .bytes i)) ∷ [] ≡ v .bytes i
-Storable (Runs u) v = ((i : ℕ) → i < v .count → length (v .bytes i) ≡ v .entries i * u) × (startOf v (v .count) < 256 ^ (v .offsetWidth))
+-- rows that can be stored and read back: they are as long as the layout says, and their offsets, of w bytes, fit that width
+abbrev pub Storable : Layout → ℕ → Rows → Type 0
+Storable (Blocks n) w v = (i : ℕ) → i < v .count → length (v .bytes i) ≡ n
+Storable Bits w v = (i : ℕ) → i < v .count → bitValue (isSet (v .bytes i)) ∷ [] ≡ v .bytes i
+Storable (Runs u) w v =
+    ((i : ℕ) → i < v .count → length (v .bytes i) ≡ v .entries i * u) × (v .offsetWidth ≡ w) × (startOf v (v .count) < 256 ^ (v .offsetWidth))
 
-bytes-back : (k : Kind) (un : Bool) (c : Column) (v : Rows) (o : Output) (l : Layout) → Storable l v → (i : ℕ) → i < v .count → rowBytes l (storedColumn l c v o) i ≡ v .bytes i
+bytes-back : (k : Kind) (un : Bool) (c : Column) (v : Rows) (o : Output) (l : Layout) → Storable l (c .table .«offset_width») v → (i : ℕ) → i < v .count → rowBytes l (storedColumn l c v o) i ≡ v .bytes i
 bytes-back k un c v o (Blocks n) s i h = blocks-back k un c v o n s i h
 bytes-back k un c v o Bits s i h = bits-back k un c v o i h ∙ s i h
-bytes-back k un c v o (Runs u) s i h = runs-back k un c v o u (s .1) (s .0) i h
+bytes-back k un c v o (Runs u) s i h = runs-back k un c v o u (s .1) (s .2) (s .0) i h
 
 -- ---- taken rows can be stored
 
@@ -133,14 +136,14 @@ bit-row true false = refl
 bit-row false b = refl
 
 module _ (k : Kind) (un : Bool) (c : Column) (x : IndexColumn) (index-ok : IndexFormed x) (inside : ltb (outOfRange (c .table .rows) x) (x .indices .count) ≡ false) where
-  taken-storable : (l : Layout) → RunKind l c → Formed k l c → ltb (overflowAt l (takeRows (rowsBy k un l c) x)) (x .indices .count) ≡ false → Storable l (takeRows (rowsBy k un l c) x)
+  taken-storable : (l : Layout) → RunKind l c → Formed k l c → ltb (overflowAt l (takeRows (rowsBy k un l c) x)) (x .indices .count) ≡ false → Storable l (c .table .«offset_width») (takeRows (rowsBy k un l c) x)
   taken-storable (Blocks n) rk f e = regular-take (rowsBy k un (Blocks n) c) x (regular-column k un (Blocks n) c rk f) inside
   taken-storable Bits rk f e = λ j h. bit-row (names (rowsBy k un Bits c) x j) (bitAt (c .values) (c .table .«data_bit» + index x j))
   taken-storable (Runs u) rk f e =
       let v : Rows = rowsBy k un (Runs u) c in
       let r : RunFacts u c = run-facts k u c rk f in
       let few : (j : ℕ) → j < x .indices .count → takeRows v x .entries j ≤ maxBytes = λ j h. entries-few u r j h in
-      (regular-take v x (regular-column k un (Runs u) c rk f) inside, total-fits (takeRows v x) u few (index-ok .count) (rk .1) e)
+      (regular-take v x (regular-column k un (Runs u) c rk f) inside, refl, total-fits (takeRows v x) u few (index-ok .count) (rk .1) e)
     where
       entries-few : (u : ℕ) → RunFacts u c → (j : ℕ) → j < x .indices .count → takeRows (rowsBy k un (Runs u) c) x .entries j ≤ maxBytes
       entries-few u r j h = go (takenValid (rowsBy k un (Runs u) c) x j) refl
@@ -161,7 +164,7 @@ reads-back c x o e =
     let p : Passed c x o = gathered-passed c x o e in
     let q : WellFormed c × (passes (indexRefusal x) ≡ true) = form-passed c x (p .form) in
     let f : Formed k l c = formed c (q .0) in
-    let s : Storable l v = taken-storable k un c x (index-formed x (q .1)) (in-range (c .table .rows) x (p .range)) l (run-kind k c (f .goodKind)) f (no-overflow v (p .overflow)) in
+    let s : Storable l (c .table .«offset_width») v = taken-storable k un c x (index-formed x (q .1)) (in-range (c .table .rows) x (p .range)) l (run-kind k c (f .goodKind)) f (no-overflow v (p .overflow)) in
     rw (gathered-stored c x o e)
     (record {
       count = refl;

@@ -103,7 +103,7 @@ module _ (k : ℕ) (c : Column) (x : IndexColumn) (r : Repeated k c x) where
       → gather c x o ≡ record { answer = refuse 6 32_767 (overflowTotal (kindAt c) 2_147_483_648 2_147_418_112); output = o }
   unfolding rowsOf
   overflowed u l n o =
-      let e : overflowRefusal v ≡ refuse 6 32_767 (overflowTotal (kindAt c) 2_147_483_648 2_147_418_112) = even-refused v taken-even u l (r .offsetWidth) n in
+      let e : overflowRefusal v ≡ refuse 6 32_767 (overflowTotal (kindAt c) 2_147_483_648 2_147_418_112) = even-refused v taken-even u l (rw l (r .offsetWidth)) n in
       gather-stages c x o
       ∙ at-overflow (formRefusal c x orElse rangeRefusal (c .table .rows) x) v o tests-pass (rw e)
       ∙ rw e
@@ -112,9 +112,9 @@ module _ (k : ℕ) (c : Column) (x : IndexColumn) (r : Repeated k c x) where
       → gather c x o ≡ record { answer = refuse 7 3 2_147_418_112; output = o }
   unfolding rowsOf
   too-short l n o a b d =
-      let e : spaceRefusal v o ≡ refuse 7 3 2_147_418_112 = even-short v taken-even l (r .offsetWidth) n o a b d in
+      let e : spaceRefusal v o ≡ refuse 7 3 2_147_418_112 = even-short v taken-even l (rw l (r .offsetWidth)) n o a b d in
       gather-stages c x o
-      ∙ at-space (formRefusal c x orElse rangeRefusal (c .table .rows) x) v o tests-pass (even-passed v taken-even 1 l (r .offsetWidth) n) (rw e)
+      ∙ at-space (formRefusal c x orElse rangeRefusal (c .table .rows) x) v o tests-pass (even-passed v taken-even 1 l (rw l (r .offsetWidth)) n) (rw e)
       ∙ rw e
 
 -- kind 3: the new total
