@@ -13,7 +13,7 @@ shl-mask : tie.Need-shl-mask
 shl-mask c = search needs
 
 sub-mask : tie.Need-sub-mask
-sub-mask c = omega (arith, power-of (c .before .args .left) (c .if1 .taken), pow-pos (c .before .args .left))
+sub-mask c = omega (arith, power-of (c .before .args .left) (omega arith), pow-pos (c .before .args .left))
 
 low-requires : tie.Need-low-requires
 low-requires c κs = search needs
@@ -22,7 +22,7 @@ returns : tie.Need-returns
 returns c =
     let a = c .before .before .args in
     c .low .ensures
-    ∙ ap (λ (m : ℕ). bitAnd (a .v) (m - 1) % 256) (power-of (a .left) (c .before .if1 .taken))
+    ∙ ap (λ (m : ℕ). bitAnd (a .v) (m - 1) % 256) (power-of (a .left) (omega arith))
     ∙ ap (λ (m : ℕ). m % 256) (and-mask (a .v) (a .left))
 
 low-requires-2 : tie.Need-low-requires-2

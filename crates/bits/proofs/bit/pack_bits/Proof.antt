@@ -55,7 +55,7 @@ loop-again c =
     let at = c .before .before .before .before .before .before .loop in
     let t = c .before .before .before .before .before .loop-test .taken in (
       omega (arith, t),
-      packed-word (a .src .now) (a .out .now) (a .bit-offset) (a .n) (at .k) (at .out) (at .inv .1) (c .before .before .before .word-from .result) (c .before .before .write-u64 .last .0) (omega (arith, t)) (c .before .before .before .word-from .ensures) (c .before .before .write-u64 .ensures),
+      packed-word (a .src .now) (a .out .now) (a .bit-offset) (a .n) (at .k) (at .inv .1) (c .before .before .before .word-from .result) (omega (arith, t)) (c .before .before .before .word-from .ensures) (c .before .before .write-u64 .ensures),
       c .before .before .write-u64 .kept .0 ∙ at .inv .2,
     )
 
@@ -63,7 +63,7 @@ loop2-holds : tie.Need-loop2-holds Inv-loop μ-loop Inv-loop2 μ-loop2
 loop2-holds c =
     let a = c .before .before .before .before .args in
     let at = c .before .loop in
-    (omega arith, packed-again (a .src .now) (a .out .now) (a .bit-offset) (a .n) (at .k) (at .out) (at .inv .1), refl)
+    (omega arith, packed-again (a .src .now) (a .out .now) (a .bit-offset) (a .n) (at .k) (at .inv .1), refl)
 
 mul-loop2 : tie.Need-mul-loop2 Inv-loop μ-loop Inv-loop2 μ-loop2
 mul-loop2 c = search needs
@@ -95,7 +95,7 @@ loop2-again c =
     let at = c .before .before .loop2 in
     let l : at .k < length (c .before .before .before .before .loop .out) = omega (arith, c .before .before .before .before .loop .inv, c .before .before .before .before .before .before .before .pre) in (
       omega arith,
-      packed-byte (a .src .now) (c .before .before .before .before .loop .out) (a .bit-offset) (a .n) (at .k) (at .out) (at .inv .1) (c .byte-from .result) l (c .before .loop2-test .taken) (c .byte-from .ensures),
+      packed-byte (a .src .now) (c .before .before .before .before .loop .out) (a .bit-offset) (a .n) (at .k) (at .inv .1) l (c .before .loop2-test .taken) (c .byte-from .ensures),
       length-set (at .out) (at .k) (c .byte-from .result) ∙ at .inv .2,
     )
 
@@ -108,7 +108,7 @@ returns c =
     let at = c .before .before .before .loop in
     let m = c .before .loop2 .k in
     let e : m ≡ bytesFor (a .n) = omega arith in
-    packed-end (a .src .now) (a .out .now) (a .bit-offset) (a .n) (at .k) (at .out) (at .inv .1) m (c .before .loop2 .out) (omega arith) e (c .before .loop2 .inv .1)
+    packed-end (a .src .now) (a .out .now) (a .bit-offset) (a .n) (at .k) (at .inv .1) m (omega arith) e (c .before .loop2 .inv .1)
 
 pub pack-bits-spec : {M : Type 1} → statement M
 pack-bits-spec =
