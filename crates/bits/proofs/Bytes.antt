@@ -50,6 +50,19 @@ overwrite-tail a b s n e =
     subst (λ (k : ℕ). take k (overwrite a s) ++ overwrite b (drop k (overwrite a s)) ≡ overwrite (a ++ b) s) e
     (rw (take-overwrite a s, drop-overwrite a s) (sym (overwrite-step a b s)))
 
+-- b hides a that is not longer
+pub overwrite-over : (a b s : List ℕ) → length a ≤ length b → overwrite b (overwrite a s) ≡ overwrite b s
+overwrite-over a b s h =
+    let j : ℕ = length b - length a in
+    let e : length b ≡ length a + j = omega arith in
+    let d : drop (length b) (overwrite a s) ≡ drop (length b) s =
+    rw (e, ← drop-drop j (length a) (overwrite a s), drop-overwrite a s) (drop-drop j (length a) s) in
+    ap (λ (t : List ℕ). b ++ t) d
+
+-- writing the same again changes nothing
+pub overwrite-again : (a s : List ℕ) {t : List ℕ} → t ≡ overwrite a s → t ≡ overwrite a t
+overwrite-again a s e = e ∙ sym (overwrite-over a a s (omega arith)) ∙ ap (overwrite a) (sym e)
+
 -- ---- parts
 
 pub part-add : (p n m : ℕ) (s : List ℕ) → part p (n + m) s ≡ part p n s ++ part (p + n) m s
@@ -108,16 +121,7 @@ copy-again p k s d h l =
 
 -- a whole copy does not see what a part of it has written
 pub copy-whole : (k : ℕ) (s d : List ℕ) → k ≤ length s → overwrite s (overwrite (take k s) d) ≡ overwrite s d
-copy-whole k s d l =
-    let lk : length (take k s) ≡ k = length-take-le k s l in
-    let j : ℕ = length s - k in
-    let e : length s ≡ k + j = omega arith in
-    ap (λ (t : List ℕ). s ++ t)
-    (ap (λ (n : ℕ). drop n (overwrite (take k s) d)) e
-    ∙ sym (drop-drop j k (overwrite (take k s) d))
-    ∙ ap (drop j) (drop-at (take k s) (drop (length (take k s)) d) k lk ∙ rw lk)
-    ∙ drop-drop j k d
-    ∙ ap (λ (n : ℕ). drop n d) (sym e))
+copy-whole k s d l = overwrite-over (take k s) s d (omega (arith, length-take-le k s l))
 
 -- the last n bytes, after the first k, wherever the two meet
 pub copy-last : (n k : ℕ) (s d : List ℕ) → n ≤ length s → length s ≤ k + n → k ≤ length s

@@ -10,27 +10,27 @@ use Rattle.bits.proofs.Bytes.{copy-more, copy-again, copy-whole, copy-l
 use Rattle.bits.proofs.Numbers.{AllBytes, toLittleEndian-part}
 
 -- the number that was read at p of s, written at p of out, carries the bytes over
-carried : (w p x : ℕ) (s out y : List ℕ) → AllBytes s → p + w ≤ length s → x ≡ littleEndian (part p w s) → y ≡ overwriteAt p (toLittleEndian w x) out
-    → y ≡ overwriteAt p (part p w s) out
-carried w p x s out y b h e d = d ∙ ap (λ (t : List ℕ). overwriteAt p t out) (ap (toLittleEndian w) e ∙ toLittleEndian-part w p s b h)
+carried : (w p : ℕ) (s : List ℕ) {x : ℕ} (out : List ℕ) {y : List ℕ} → AllBytes s → p + w ≤ length s → x ≡ littleEndian (part p w s)
+    → y ≡ overwriteAt p (toLittleEndian w x) out → y ≡ overwriteAt p (part p w s) out
+carried w p s out b h e d = d ∙ ap (λ (t : List ℕ). overwriteAt p t out) (ap (toLittleEndian w) e ∙ toLittleEndian-part w p s b h)
 
 -- one more number of a copy that goes up
-pub copied-number : (w p x : ℕ) (s d out y : List ℕ) → AllBytes s → p + w ≤ length s → out ≡ overwrite (take p s) d
+pub copied-number : (w p : ℕ) (s d : List ℕ) {x : ℕ} {out y : List ℕ} → AllBytes s → p + w ≤ length s → out ≡ overwrite (take p s) d
     → x ≡ littleEndian (part p w s) → y ≡ overwriteAt p (toLittleEndian w x) out → y ≡ overwrite (take (p + w) s) d
-copied-number w p x s d out y b h o e k =
-    carried w p x s out y b h e k ∙ ap (overwriteAt p (part p w s)) o ∙ copy-more p w s d (omega arith)
+copied-number w p s d {out = out} b h o e k =
+    carried w p s out b h e k ∙ ap (overwriteAt p (part p w s)) o ∙ copy-more p w s d (omega arith)
 
 -- the last two numbers of a copy that has come to k: they may overlap each other, and what is copied already
-pub copied-end : (w k p x x′ : ℕ) (s d out y z : List ℕ) → AllBytes s → p ≤ k → k ≤ length s → p + w ≤ length s → length s ≤ p + w + w
+pub copied-end : (w k p : ℕ) (s d : List ℕ) {x x′ : ℕ} {out y z : List ℕ} → AllBytes s → p ≤ k → k ≤ length s → p + w ≤ length s → length s ≤ p + w + w
     → out ≡ overwrite (take k s) d
     → x ≡ littleEndian (part p w s) → x′ ≡ littleEndian (part (length s - w) w s)
     → y ≡ overwriteAt p (toLittleEndian w x) out → z ≡ overwriteAt (length s - w) (toLittleEndian w x′) y
     → z ≡ overwrite s d
-copied-end w k p x x′ s d out y z b pk ks ps sp o e e′ h h′ =
+copied-end w k p s d {out = out} {y = y} b pk ks ps sp o e e′ h h′ =
     let again : out ≡ overwrite (take p s) out = o ∙ copy-again p k s d pk ks ∙ ap (overwrite (take p s)) (sym o) in
-    let first : y ≡ overwrite (take (p + w) s) out = copied-number w p x s out out y b ps again e h in
+    let first : y ≡ overwrite (take (p + w) s) out = copied-number w p s out b ps again e h in
     let fits : length s - w + w ≤ length s = omega arith in
-    carried w (length s - w) x′ s y z b fits e′ h′
+    carried w (length s - w) s y b fits e′ h′
     ∙ ap (overwriteAt (length s - w) (part (length s - w) w s)) first
     ∙ copy-last w (p + w) s out (omega arith) sp ps
     ∙ ap (overwrite s) o

@@ -128,6 +128,10 @@ littleEndian-from (suc w) p s h =
     let e : littleEndian (part (p + 1) w s) ≡ numberFrom w (p + 1) s = littleEndian-from w (p + 1) s (omega arith) in
     number-step-down s p w (omega arith) ∙ rw (← add-one p, e)
 
+-- a number of one byte
+pub littleEndian-byte : (p : ℕ) (s : List ℕ) → p < length s → littleEndian (part p 1 s) ≡ getD s p 0
+littleEndian-byte p s h = omega (arith, littleEndian-from 1 p s (omega arith))
+
 -- ---- the width that is left where the tests for 4, 8 and 2 failed
 
 pub width-one : (w : ℕ) → isNumberWidth w ≡ true → (w ≡ 4 → ⊥) → (w ≡ 8 → ⊥) → (w ≡ 2 → ⊥) → w ≡ 1
@@ -139,7 +143,7 @@ width-one w h a b c = go (eqb w 1) refl
 
 pub numberAt-byte : (s : List ℕ) (i : ℕ) → i < length s → numberAt 1 s i ≡ getD s i 0
 unfolding numberAt
-numberAt-byte s i h = rw mul-one (omega (arith, littleEndian-from 1 i s (omega arith)))
+numberAt-byte s i h = rw mul-one (littleEndian-byte i s h)
 
 pub overwriteAt-byte : (s : List ℕ) (i v : ℕ) → i < length s → set s i (v % 256) ≡ overwriteAt (i * 1) (toLittleEndian 1 v) s
 overwriteAt-byte s i v h = rw mul-one (stores-overwriteAt i (toLittleEndian 1 v) s (omega arith))

@@ -1,11 +1,10 @@
 -- The bits of numbers, and of the numbers that a buffer's bytes stand for: a word is its bits, bit t of the word at byte p is bit 8 * p + t of the buffer.
 -- Here a word's bits are counted, shifted, masked and written as packed bytes. Assumes nothing.
-use mathlib.Core.Path.{_≡_, refl, sym, ap, ap₂, _∙_, subst}
+use mathlib.Core.Path.{_≡_, refl, sym, ap, ap₂, _∙_}
 use mathlib.Core.Bool.{Bool, true, false, _&&_}
 use mathlib.Core.List.{List, [], _∷_, _++_}
-use mathlib.Core.Logic.{_⊎_, inl, inr}
 use Prim.Native.Nat.{ℕ, zero, suc, _+_, _-_, _*_, _/_, _%_, _^_, _≤_, _<_}
-use native.Mathlib.Nat.{add-assoc, div-one, div-eq-of-lt, lt-of-lt-of-le, mul-one, mod-lt, pow-succ', mul-mod-left, mul-add-div-right, mul-assoc, mul-comm}
+use native.Mathlib.Nat.{add-zero, add-comm, add-assoc, add-mul-div-right, div-one, div-eq-of-lt, lt-of-lt-of-le, mod-lt, mul-assoc, mul-comm, mul-mod-left, one-mul, pow-succ'}
 use native.Mathlib.Numerals.{add-one, one-add}
 use native.Mathlib.Omega.{arith}
 use lib.Arith.{lt-one}
@@ -13,14 +12,14 @@ use lib.Bits.{bitOr, or-shifted-r}
 use lib.Count.{ones, ones-step}
 use lib.Dec.{eqb, ltb}
 use lib.ListN.{length, getD}
-use lib.Pow.{pow-pos, pow-mono, pow-add, shr-lt, shr-shr, shl-shr, high, low, mod-pow-add, field, mod-mod-pow}
-use borrow.Author.Tests.{lt-ltb, le-ltb, ltb-true, ltb-false}
+use lib.Pow.{pow-pos, pow-mono, pow-add, shr-lt, shr-shr, shl-exact, shl-shr, high, low, mod-pow-add, field, mod-mod-pow}
+use borrow.Author.Tests.{ltb-true, ltb-false}
 use Rattle.bits.specs.Sequences.{sum}
 use Rattle.bits.specs.Bytes.{part}
 use Rattle.bits.specs.Numbers.{littleEndian, toLittleEndian}
 use Rattle.bits.specs.Bits.{bitValue, bitAt, setBits, byteOf, packBytes}
 use Rattle.bits.proofs.Sequences.{sum-cong, sum-head, sum-add, sum-le, sum-const}
-use Rattle.bits.proofs.Numbers.{AllBytes, littleEndian-lt, littleEndian-from, littleEndian-halves, numberFrom, toLittleEndian-halves}
+use Rattle.bits.proofs.Numbers.{AllBytes, littleEndian-lt, littleEndian-from, littleEndian-byte, littleEndian-halves, numberFrom, toLittleEndian-halves}
 use Rattle.bits.proofs.Bits.{bitValue-lt, bit-value, packBytes-cong, byteOf-cong}
 
 -- bit j of a number
@@ -128,6 +127,83 @@ setBits-more w k s b h =
 
 -- one byte more
 pub setBits-byte : (k : ℕ) (s : List ℕ) → AllBytes s → k < length s → setBits (k + 1) s ≡ setBits k s + ones (getD s k 0)
-setBits-byte k s b h =
-    let e : littleEndian (part k 1 s) ≡ getD s k 0 = omega (arith, littleEndian-from 1 k s (omega arith)) in
-    setBits-more 1 k s b (omega arith) ∙ ap (λ (y : ℕ). setBits k s + ones y) e
+setBits-byte k s b h = setBits-more 1 k s b (omega arith) ∙ ap (λ (y : ℕ). setBits k s + ones y) (littleEndian-byte k s h)
+
+-- ---- words as packed bytes
+
+pub toLittleEndian-bits : (w y : ℕ) → toLittleEndian w y ≡ packBytes w (bitOf y)
+unfolding packBytes
+toLittleEndian-bits zero y = refl
+toLittleEndian-bits (suc w) y =
+    let b : byteOf (λ j. bitOf y (8 * w + j)) ≡ y / 256 ^ w % 256 =
+    byteOf-cong (λ j l. sym (bitOf-shift y (8 * w) j)) ∙ byteOf-bits (y / 2 ^ (8 * w)) ∙ rw (pow-bytes w) in
+    ap (λ (n : ℕ). toLittleEndian n y) (sym (add-one w))
+    ∙ toLittleEndian-halves w 1 y
+    ∙ ap₂ (λ (t : List ℕ) (k : ℕ). t ++ (k ∷ [])) (toLittleEndian-bits w y) (sym b)
+
+-- what lies shift bits into the number of w bytes at q is packed from bit 8 * q + shift on
+pub packed-window : (n w q shift r : ℕ) (s : List ℕ) → AllBytes s → q + w ≤ length s → shift + 8 * n ≤ 8 * w
+    → r ≡ littleEndian (part q w s) / 2 ^ shift % 2 ^ (8 * n)
+    → toLittleEndian n r ≡ packBytes n (λ t. bitAt s (8 * q + shift + t))
+packed-window n w q shift r s b h l e =
+    let y : ℕ = littleEndian (part q w s) in
+    toLittleEndian-bits n r
+    ∙ packBytes-cong n
+    (λ t m.
+    ap (λ (k : ℕ). bitOf k t) e
+    ∙ bitOf-mask (y / 2 ^ shift) (8 * n) t m
+    ∙ bitOf-shift y shift t
+    ∙ bitOf-number w q s b h (shift + t) (omega arith)
+    ∙ ap (bitAt s) (sym (add-assoc (8 * q) shift t)))
+
+-- the same for one byte, of whose bits there are `left`
+pub byte-window : (w q shift left : ℕ) (s : List ℕ) → AllBytes s → q + w ≤ length s → ((j : ℕ) → j < 8 → j < left → shift + j < 8 * w)
+    → littleEndian (part q w s) / 2 ^ shift % 2 ^ left % 256 ≡ byteOf (λ j. ltb j left && bitAt s (8 * q + shift + j))
+byte-window w q shift left s b h l = sym (byteOf-bits (x % 2 ^ left)) ∙ byteOf-cong (λ j m. go j m (ltb j left) refl)
+  where
+    x : ℕ
+    x = littleEndian (part q w s) / 2 ^ shift
+
+    go : (j : ℕ) → j < 8 → (t : Bool) → ltb j left ≡ t → bitOf (x % 2 ^ left) j ≡ (t && bitAt s (8 * q + shift + j))
+    go j m true e =
+        let k : j < left = ltb-true j left e in
+        bitOf-mask x left j k
+        ∙ bitOf-shift (littleEndian (part q w s)) shift j
+        ∙ bitOf-number w q s b h (shift + j) (l j m k)
+        ∙ ap (bitAt s) (sym (add-assoc (8 * q) shift j))
+    go j m false e = bitOf-small (x % 2 ^ left) j (lt-of-lt-of-le (mod-lt x (pow-pos left)) (pow-mono (ltb-false j left e)))
+
+-- two neighbours: the bits of y from shift on, and above them the lowest bits of next
+pub joined : (y next shift k : ℕ) → y < 2 ^ (k + shift)
+    → bitOr (y / 2 ^ shift) ((next * 2 ^ k) % 2 ^ (shift + k)) ≡ (y + 2 ^ (k + shift) * next) / 2 ^ shift % 2 ^ (shift + k)
+joined y next shift k h =
+    let x : ℕ = y / 2 ^ shift in
+    let z : ℕ = next % 2 ^ shift in
+    let small : x < 2 ^ k = shr-lt k shift h in
+    let top : (next * 2 ^ k) % 2 ^ (shift + k) ≡ z * 2 ^ k =
+    mod-pow-add (next * 2 ^ k) shift k ∙ rw (shl-shr next k, mul-mod-left next (2 ^ k)) (add-zero (z * 2 ^ k)) in
+    let whole : (y + 2 ^ (k + shift) * next) / 2 ^ shift ≡ next * 2 ^ k + x =
+    ap (λ (n : ℕ). (y + n) / 2 ^ shift) (ap (λ (n : ℕ). n * next) (pow-add 2 k shift) ∙ mul-comm (2 ^ k * 2 ^ shift) next ∙ sym (mul-assoc next (2 ^ k) (2 ^ shift)))
+    ∙ add-mul-div-right y (next * 2 ^ k) (pow-pos shift)
+    ∙ add-comm x (next * 2 ^ k) in
+    ap (bitOr x) top
+    ∙ or-shifted-r z k x small
+    ∙ sym (rw whole (mod-pow-add (next * 2 ^ k + x) shift k ∙ rw (high next k small, low next k small)))
+
+-- the same, of nine bytes of a buffer: eight of them a word, and the one after it
+pub joined-word : (q shift y next : ℕ) (s : List ℕ) → AllBytes s → q + 9 ≤ length s → shift < 64
+    → y ≡ littleEndian (part q 8 s) → next ≡ getD s (q + 8) 0
+    → bitOr (y / 2 ^ shift) ((next * 2 ^ (64 - shift)) % 2 ^ 64) ≡ littleEndian (part q 9 s) / 2 ^ shift % 2 ^ 64
+joined-word q shift y next s b h l e d =
+    let k : ℕ = 64 - shift in
+    let a : k + shift ≡ 64 = omega arith in
+    let c : shift + k ≡ 64 = omega arith in
+    let small : y < 2 ^ (k + shift) = rw (a, e) (littleEndian-lt 8 q s b) in
+    let nine : littleEndian (part q 9 s) ≡ y + 2 ^ 64 * next =
+    littleEndian-halves 8 1 q s (omega arith) ∙ rw (e, d, littleEndian-byte (q + 8) s (omega arith)) in
+    let j = joined y next shift k small in
+    rw (a, c) at j ∙ rw nine
+
+-- the mask of the bits below left
+pub power-of : (left : ℕ) → left < 8 → (1 * 2 ^ left) % 2 ^ 64 ≡ 2 ^ left
+power-of left h = shl-exact 1 left 64 (omega arith) (omega arith) ∙ one-mul (2 ^ left)

@@ -44,20 +44,18 @@ loop-less c = search needs
 
 loop-again : tie.Need-loop-again Inv-loop μ-loop
 loop-again c =
-    let f = c .before .before .before .before .before .before .before .before .before .before .before .before .before .before in
-    let at = c .before .before .before .before .before .before .before .before .before .before .before .loop in
-    let g = c .before .before .before .before .before .before .before .before .before .before .before .before .before .shared-slice-known .given in
-    let t = c .before .before .before .before .before .before .before .before .before .before .loop-test .taken in
+    let front = c .before .before .before .before .before .before in
+    let read = front .before .before in
+    let at = read .before .before .before .loop in
+    let t = read .before .before .loop-test .taken in
+    let f = read .before .before .before .before .before .before in
     let s = f .args .src .now in
     let d = f .args .dst .now in
-    let y = c .before .before .before .before .before .before .write-u64 .last .0 in
-    let z = c .before .before .write-u642 .last .0 in
-    let one : y ≡ overwrite (take (at .k + 8) s) d =
-    copied-number 8 (at .k) (c .before .before .before .before .before .before .before .before .before .read-u64 .result) s d (at .dst) y g (omega (arith, t)) (at .inv .1) (c .before .before .before .before .before .before .before .before .before .read-u64 .ensures) (c .before .before .before .before .before .before .write-u64 .ensures) in
-    let two : z ≡ overwrite (take (at .k + 8 + 8) s) d =
-    copied-number 8 (at .k + 8) (c .before .before .before .before .before .before .before .before .read-u642 .result) s d y z g (omega (arith, t)) one (c .before .before .before .before .before .before .before .before .read-u642 .ensures) (c .before .before .write-u642 .ensures) in
+    let g = read .before .before .before .before .before .shared-slice-known .given in
+    let one = copied-number 8 (at .k) s d g (omega (arith, t)) (at .inv .1) (read .before .read-u64 .ensures) (front .write-u64 .ensures) in
+    let two = copied-number 8 (at .k + 8) s d g (omega (arith, t)) one (read .read-u642 .ensures) (c .before .before .write-u642 .ensures) in
     let e : at .k + 8 + 8 ≡ at .k + 16 = omega arith in
-    (omega (arith, t), two ∙ ap (λ (m : ℕ). overwrite (take m s) d) e, c .before .before .write-u642 .kept .0 ∙ c .before .before .before .before .before .before .write-u64 .kept .0 ∙ at .inv .2)
+    (omega (arith, t), two ∙ ap (λ (m : ℕ). overwrite (take m s) d) e, c .before .before .write-u642 .kept .0 ∙ front .write-u64 .kept .0 ∙ at .inv .2)
 
 sub-first : tie.Need-sub-first Inv-loop μ-loop
 sub-first c = search needs
@@ -82,14 +80,13 @@ same-length c = c .before .before .write-u644 .kept .0 ∙ c .before .before .be
 
 returns : tie.Need-returns Inv-loop μ-loop
 returns c =
-    let f = c .before .before .before .before .before .before .before .before .before .before .before .before .before .before in
-    let at = c .before .before .before .before .before .before .before .before .before .before .before .loop in
-    let t = c .before .before .before .before .before .before .before .before .before .before .loop-test .left in
+    let front = c .before .before .before .before .before .before in
+    let read = front .before .before in
+    let at = read .before .before .before .loop in
+    let f = read .before .before .before .before .before .before in
     let s = f .args .src .now in
-    let n = length s in
-    copied-end 8 (at .k) (n - 16) (c .before .before .before .before .before .before .before .before .before .read-u643 .result) (c .before .before .before .before .before .before .before .before .read-u644 .result) s (f .args .dst .now) (at .dst) (c .before .before .before .before .before .before .write-u643 .last .0) (c .before .before .write-u644 .last .0)
-    (c .before .before .before .before .before .before .before .before .before .before .before .before .before .shared-slice-known .given) (omega (arith, t)) (at .inv .0) (omega (arith, f .pre)) (omega (arith, f .pre)) (at .inv .1)
-    (c .before .before .before .before .before .before .before .before .before .read-u643 .ensures) (c .before .before .before .before .before .before .before .before .read-u644 .ensures) (c .before .before .before .before .before .before .write-u643 .ensures) (c .before .before .write-u644 .ensures)
+    copied-end 8 (at .k) (length s - 16) s (f .args .dst .now) (read .before .before .before .before .before .shared-slice-known .given) (omega (arith, read .before .before .loop-test .left)) (at .inv .0) (omega (arith, f .pre)) (omega (arith, f .pre)) (at .inv .1)
+    (read .before .read-u643 .ensures) (read .read-u644 .ensures) (front .write-u643 .ensures) (c .before .before .write-u644 .ensures)
 
 pub copy-long-spec : {M : Type 1} → statement M
 copy-long-spec =

@@ -26,10 +26,11 @@ same-length c = search needs
 
 returns : tie.Need-returns
 returns c =
-    let f = c .before .before .before .before .before .before .before .before .before .before .before .before in
-    copied-end 2 0 0 (c .before .before .before .before .before .before .before .before .before .read-u16 .result) (c .before .before .before .before .before .before .before .before .read-u162 .result) (f .args .src .now) (f .args .dst .now) (f .args .dst .now) (c .before .before .before .before .before .before .write-u16 .last .0) (c .before .before .write-u162 .last .0)
-    (c .before .before .before .before .before .before .before .before .before .before .before .shared-slice-known .given) (omega arith) (omega arith) (omega (arith, f .pre)) (omega (arith, f .pre)) refl
-    (c .before .before .before .before .before .before .before .before .before .read-u16 .ensures) (c .before .before .before .before .before .before .before .before .read-u162 .ensures) (c .before .before .before .before .before .before .write-u16 .ensures) (c .before .before .write-u162 .ensures)
+    let front = c .before .before .before .before .before .before in
+    let read = front .before .before in
+    let f = read .before .before .before .before in
+    copied-end 2 0 0 (f .args .src .now) (f .args .dst .now) (c .before .before .before .before .before .before .before .before .before .before .before .shared-slice-known .given) (omega arith) (omega arith) (omega (arith, f .pre)) (omega (arith, f .pre)) refl
+    (read .before .read-u16 .ensures) (read .read-u162 .ensures) (front .write-u16 .ensures) (c .before .before .write-u162 .ensures)
 
 pub copy-u16s-spec : {M : Type 1} → statement M
 copy-u16s-spec =

@@ -26,10 +26,11 @@ same-length c = search needs
 
 returns : tie.Need-returns
 returns c =
-    let f = c .before .before .before .before .before .before .before .before .before .before .before .before in
-    copied-end 8 0 0 (c .before .before .before .before .before .before .before .before .before .read-u64 .result) (c .before .before .before .before .before .before .before .before .read-u642 .result) (f .args .src .now) (f .args .dst .now) (f .args .dst .now) (c .before .before .before .before .before .before .write-u64 .last .0) (c .before .before .write-u642 .last .0)
-    (c .before .before .before .before .before .before .before .before .before .before .before .shared-slice-known .given) (omega arith) (omega arith) (omega (arith, f .pre)) (omega (arith, f .pre)) refl
-    (c .before .before .before .before .before .before .before .before .before .read-u64 .ensures) (c .before .before .before .before .before .before .before .before .read-u642 .ensures) (c .before .before .before .before .before .before .write-u64 .ensures) (c .before .before .write-u642 .ensures)
+    let front = c .before .before .before .before .before .before in
+    let read = front .before .before in
+    let f = read .before .before .before .before in
+    copied-end 8 0 0 (f .args .src .now) (f .args .dst .now) (c .before .before .before .before .before .before .before .before .before .before .before .shared-slice-known .given) (omega arith) (omega arith) (omega (arith, f .pre)) (omega (arith, f .pre)) refl
+    (read .before .read-u64 .ensures) (read .read-u642 .ensures) (front .write-u64 .ensures) (c .before .before .write-u642 .ensures)
 
 pub copy-u64s-spec : {M : Type 1} → statement M
 copy-u64s-spec =
