@@ -3,17 +3,17 @@ use mathlib.Core.Path.{_≡_, refl, sym, ap, _∙_}
 use mathlib.Core.Bool.{Bool, true, false, cond, _&&_}
 use mathlib.Core.List.{List, [], _∷_, _++_}
 use Prim.Native.Nat.{ℕ, zero, suc, _+_, _-_, _*_, _/_, _%_, _^_, _≤_, _<_}
-use native.Mathlib.Nat.{not-suc-le-zero, le-of-suc-le-suc, mul-assoc, add-zero, mul-le-mul-right, pow-suc, pow-succ', two-pow-succ, div-div-eq-div-mul}
+use native.Mathlib.Nat.{not-suc-le-zero, le-of-suc-le-suc, mul-assoc, add-zero, zero-add, mul-le-mul-right, pow-suc, pow-succ', two-pow-succ, div-div-eq-div-mul}
 use native.Mathlib.Numerals.{add-one}
 use native.Mathlib.Omega.{arith}
 use lib.Bits.{bitAnd, and-mask}
 use lib.Dec.{eqb, leb, ltb}
-use lib.ListN.{length, getD, take, set, List·getD-append}
+use lib.ListN.{length, getD, take, set, length-append, List·getD-append}
 use lib.Seq.{getD-take}
 use borrow.Author.Tests.{lt-ltb, le-ltb, le-leb, ltb-true, eq-eqb, ne-eqb}
 use Rattle.bits.specs.Sequences.{sum}
 use Rattle.bits.specs.Bytes.{overwrite}
-use Rattle.bits.specs.Bits.{bitValue, bitAt, bytesFor, byteOf, packBytes, pack, replaceBits, setBits, validAt}
+use Rattle.bits.specs.Bits.{bitValue, bitAt, bytesFor, byteOf, packBytes, pack, replaceBits, setBits, isAbsent, validAt}
 use Rattle.bits.proofs.Sequences.{concat-cong, concat-add, sum-cong, sum-mul, sum-add, sum-zero, sum-head, length-tabulate, getD-tabulate}
 use Rattle.bits.proofs.Bytes.{overwrite-set-at}
 
@@ -205,3 +205,22 @@ setBits-pack n g s =
     ∙ ap (λ (m : ℕ). sum n (λ p. bitValue (f p)) + m) (sum-zero r (λ j. bitValue (f (n + j))) (λ j h. rw (le-ltb (n + j) n (omega arith))))
     ∙ add-zero (sum n (λ p. bitValue (f p)))
     ∙ sum-cong n (λ i h. rw (lt-ltb i n h))
+
+-- ---- validity
+
+present : (s : List ℕ) → 0 < length s → isAbsent s ≡ false
+present s h = ne-eqb (length s) 0 (λ e. omega arith)
+
+-- rows whose validity was replaced
+pub validAt-replaceBits : (s : List ℕ) (b n : ℕ) (g : ℕ → Bool) → bytesFor (b + n) ≤ length s → (i : ℕ) → i < n → validAt (replaceBits s b n g) b i ≡ g i
+unfolding validAt
+validAt-replaceBits s b n g h i l = rw (present (replaceBits s b n g) (omega (arith, length-replaceBits s b n g))) (bitAt-replaceBits s b n g i l h)
+
+-- bits that were packed, in front of other bytes
+pub bitAt-packed : (n : ℕ) (g : ℕ → Bool) (s : List ℕ) (i : ℕ) → i < n → bitAt (pack n g ++ s) i ≡ g i
+bitAt-packed n g s i h = bitAt-append (pack n g) s i (omega (arith, length-pack n g)) ∙ bitAt-pack n g i h
+
+pub validAt-packed : (n : ℕ) (g : ℕ → Bool) (s : List ℕ) (i : ℕ) → i < n → validAt (pack n g ++ s) 0 i ≡ g i
+unfolding validAt
+validAt-packed n g s i h =
+    rw (present (pack n g ++ s) (omega (arith, length-append (pack n g) s, length-pack n g)), zero-add i) (bitAt-packed n g s i h)

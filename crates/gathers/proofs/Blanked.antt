@@ -1,39 +1,39 @@
 -- A column with some rows made null and empty is well-formed and keeps its other rows; and so demand 3: the gather of a well-formed
 -- column is the gather of its blanked column. Assumes nothing.
 use mathlib.Core.Path.{_≡_, refl, sym, ap, _∙_}
-use mathlib.Core.Bool.{Bool, true, false, cond, not, _&&_, false≢true}
+use mathlib.Core.Bool.{Bool, true, false, cond}
 use mathlib.Core.List.{[], _∷_}
 use Prim.Native.Nat.{ℕ, suc, _+_, _*_, _≤_, _<_}
 use native.Mathlib.Nat.{le-of-eq, le-trans}
 use native.Mathlib.Omega.{arith}
-use lib.Dec.{ltb}
 use lib.ListN.{length, replicate, length-replicate}
 use borrow.Author.Tests.{ltb-false, le-ltb, lt-leb}
-use Rattle.gathers.proofs.Stages.{finish, gather-stages, finish-refused, in-range}
-use Rattle.gathers.proofs.Replaced.{validAt-with, validityOverLimit-with, validityShort-with, length-blocksWith, part-blocksWith}
-use Rattle.gathers.proofs.Runs.{values-le, offsets-length, entries-d, bytes-d, good-d}
-use Rattle.gathers.proofs.Reach.{taken-cong}
+use Rattle.tables.specs.declared.table.Kind.the-variants.{Primitive, Boolean, VariableBytes, List as ListKind, FixedSizeList, FixedSizeBinary, Unknown}
 use Rattle.bits.specs.Bytes.{part}
 use Rattle.bits.specs.Bits.{bitValue, bitAt, bytesFor, replaceBits}
-use Rattle.tables.specs.Kinds.{kindOf, layoutOf, copiesUnderNull}
-use Rattle.tables.specs.Columns.{Column, IndexColumn, kindAt, layoutAt, offsetAt}
-use Rattle.tables.specs.Answers.{refuse, accept, passes, _orElse_}
+use Rattle.tables.specs.Kinds.{copiesUnderNull}
+use Rattle.tables.specs.Columns.{Column, IndexColumn, kindAt, layoutAt}
+use Rattle.tables.specs.Answers.{passes, _orElse_}
 use Rattle.tables.specs.Refusals.{badKind, usedOverLimit, valuesShort, hasBadOffset, indexRefusal, WellFormed}
-use Rattle.tables.specs.Rows.{Rows, rowBytes, rowsBy, rowsOf}
+use Rattle.tables.specs.Rows.{Rows, rowBytes, rowsBy}
 use Rattle.tables.specs.declared.table.Kind.{Kind}
-use Rattle.tables.specs.declared.table.Kind.the-variants.{Primitive, Boolean, VariableBytes, List as ListKind, FixedSizeList, FixedSizeBinary, Unknown}
 use Rattle.tables.specs.declared.table.Layout.{Layout}
 use Rattle.tables.specs.declared.table.Layout.the-variants.{Blocks, Bits, Runs}
 use Rattle.tables.specs.declared.refusal.Answer.{Answer}
 use Rattle.gathers.specs.Taken.{takeRows}
 use Rattle.gathers.specs.Stored.{Output, isSet}
-use Rattle.gathers.specs.Gather.{outOfRange, rangeRefusal, gather}
+use Rattle.gathers.specs.Gather.{rangeRefusal, gather}
 use Rattle.gathers.specs.Blank.{reached, maskRows, withRows, blank}
 use Rattle.bits.proofs.Bytes.{length-block}
 use Rattle.bits.proofs.Bits.{bit-test, length-replaceBits, bitAt-replaceBits}
-use Rattle.tables.proofs.Offsets.{RunFacts, run-facts, no-bad-offset}
+use Rattle.tables.proofs.Offsets.{RunFacts, no-bad-offset, run-facts}
+use Rattle.tables.proofs.Facts.{RunKind, Formed, formed, refused-by-index}
 use Rattle.tables.proofs.Lines.{orElse-passes}
-use Rattle.tables.proofs.Facts.{RunKind, run-kind, Formed, formed, well-formed, refused-by-index}
+use Rattle.gathers.proofs.Stages.{finish, gather-stages, finish-refused, in-range}
+use Rattle.gathers.proofs.Reach.{taken-cong}
+use Rattle.tables.proofs.Views.{run-kind-at, rows-like, well-formed-like, rowsOf-by}
+use Rattle.gathers.proofs.Replaced.{validAt-with, validityOverLimit-with, validityShort-with, length-blocksWith, part-blocksWith}
+use Rattle.gathers.proofs.Runs.{values-le, offsets-length, entries-d, bytes-d, good-d}
 
 -- ---- tests of the description
 
@@ -76,7 +76,6 @@ module _ (k : Kind) (un : Bool) (c : Column) (keep : ℕ → Bool) where
   d l = withRows c (m l)
 
   replaced-blocks : (n : ℕ) → c .table .rows * n ≤ length (c .values) → Replaced k un (Blocks n) c keep (d (Blocks n))
-  unfolding offsetAt
   replaced-blocks n fits = record {
     valuesLength = le-of-eq (length-blocksWith (c .values) (c .table .rows) n (m (Blocks n) .bytes) row fits);
     offsetsLength = refl;
@@ -94,7 +93,6 @@ module _ (k : Kind) (un : Bool) (c : Column) (keep : ℕ → Bool) where
       row i h = go i h (keep i)
 
   replaced-Bits : bytesFor (c .table .«data_bit» + c .table .rows) ≤ length (c .values) → Replaced k un Bits c keep (d Bits)
-  unfolding offsetAt
   replaced-Bits fits = record {
     valuesLength = le-of-eq (length-replaceBits (c .values) (c .table .«data_bit») (c .table .rows) _);
     offsetsLength = refl;
@@ -145,25 +143,27 @@ module _ (k : Kind) (un : Bool) (c : Column) (keep : ℕ → Bool) where
 
 -- the blanked column is well-formed
 pub blank-well-formed : (c : Column) (x : IndexColumn) → WellFormed c → WellFormed (blank c x)
-unfolding blank rowsOf kindAt layoutAt
+unfolding blank
 blank-well-formed c x e =
-    let k : Kind = kindOf (c .table .kind) in
-    let wf : Formed k (layoutOf k (c .table .width) (c .table .size)) c = formed c e in
-    well-formed (blank c x) (blanked-formed k (copiesUnderNull k (c .table .size)) c (reached (rowsOf c) x) (layoutOf k (c .table .width) (c .table .size)) (run-kind k c (wf .goodKind)) wf)
+    let k : Kind = kindAt c in
+    let l : Layout = layoutAt c in
+    let un : Bool = copiesUnderNull k (c .table .size) in
+    let wf : Formed k l c = formed c e in
+    rw (rowsOf-by c) (well-formed-like c (withRows c (maskRows (rowsBy k un l c) (reached (rowsBy k un l c) x))) refl refl refl (blanked-formed k un c (reached (rowsBy k un l c) x) l (run-kind-at c (wf .goodKind)) wf))
 
 -- demand 3: for every index column and every lent output, a well-formed column gathers as its blanked column does
 pub gather-blank : (c : Column) (x : IndexColumn) (o : Output) → WellFormed c → gather c x o ≡ gather (blank c x) x o
-unfolding blank rowsOf kindAt layoutAt
+unfolding blank
 gather-blank c x o e =
-    let k : Kind = kindOf (c .table .kind) in
+    let k : Kind = kindAt c in
+    let l : Layout = layoutAt c in
     let un : Bool = copiesUnderNull k (c .table .size) in
-    let l : Layout = layoutOf k (c .table .width) (c .table .size) in
     let v : Rows = rowsBy k un l c in
     let keep : ℕ → Bool = reached v x in
     let d : Column = withRows c (maskRows v keep) in
     let w : Rows = rowsBy k un l d in
     let wf : Formed k l c = formed c e in
-    let rk : RunKind l c = run-kind k c (wf .goodKind) in
+    let rk : RunKind l c = run-kind-at c (wf .goodKind) in
     let r : Replaced k un l c keep d = replaced k un c keep l rk wf in
     let a : Answer = indexRefusal x orElse rangeRefusal (c .table .rows) x in
     let same : (t : Bool) → passes a ≡ t → finish a (takeRows v x) o ≡ finish a (takeRows w x) o =
@@ -173,4 +173,5 @@ gather-blank c x o e =
           taken-cong v x (p .0) (valid-stays k un c keep l rk wf) (r .entriesStay) (r .bytesStay) (in-range (c .table .rows) x (p .1)) a o
       | false ↦ λ h. finish-refused a (takeRows v x) (takeRows w x) o h
     ] in
-    rw (gather-stages c x o, gather-stages d x o, refused-by-index c x e, refused-by-index d x (blank-well-formed c x e)) (same (passes a) refl)
+    let b : WellFormed d = well-formed-like c d refl refl refl (blanked-formed k un c keep l rk wf) in
+    rw (gather-stages c x o, refused-by-index c x e, rowsOf-by c, gather-stages d x o, refused-by-index d x b, rows-like c d refl refl refl) (same (passes a) refl)

@@ -3,7 +3,7 @@ use mathlib.Core.Path.{_≡_, refl, sym, ap, _∙_}
 use mathlib.Core.Bool.{Bool, true, false, cond}
 use mathlib.Core.List.{List}
 use Prim.Native.Nat.{ℕ, _<_}
-use Rattle.tables.specs.Kinds.{kindOf, layoutOf, copiesUnderNull}
+use Rattle.tables.specs.Kinds.{copiesUnderNull}
 use Rattle.tables.specs.Columns.{Column, IndexColumn, kindAt, layoutAt, index}
 use Rattle.tables.specs.Answers.{passes, _orElse_}
 use Rattle.tables.specs.Refusals.{indexRefusal, formRefusal, WellFormed}
@@ -17,7 +17,7 @@ use Rattle.gathers.specs.Stored.{Output}
 use Rattle.gathers.specs.Gather.{outOfRange, rangeRefusal, gather}
 use Rattle.bits.proofs.Sequences.{first-cong}
 use Rattle.tables.proofs.Offsets.{run-facts}
-use Rattle.tables.proofs.Facts.{RunKind, run-kind, Formed, formed, form-passed}
+use Rattle.tables.proofs.Facts.{RunKind, Formed, formed, form-passed}
 use Rattle.tables.proofs.Lines.{orElse-passes}
 use Rattle.gathers.proofs.Stages.{finish, gather-stages, finish-refused, in-range}
 use Rattle.gathers.proofs.Store.{finish-cong}
@@ -26,6 +26,7 @@ use Rattle.tables.specs.Needed.{SameNeededAt, SameNeeded, SameIndexNeeded}
 use Rattle.tables.specs.declared.table.Table.{Table}
 use Rattle.tables.specs.declared.table.Indices.{Indices}
 use Rattle.tables.proofs.Needed.{valid-same, form-same, entries-same, GoodRuns, bytes-same, index-valid-same, index-same, index-form-same}
+use Rattle.tables.proofs.Views.{run-kind-at, rows-like, rowsOf-by}
 
 -- ---- a column
 
@@ -39,10 +40,9 @@ module _ (c : Column) (values offsets validity : List ℕ) (x : IndexColumn) (o 
   d = record { table = c .table; values = values; offsets = offsets; validity = validity }
 
   same-gather : SameNeededAt (layoutAt c) c d → gather c x o ≡ gather d x o
-  unfolding formRefusal rowsOf kindAt layoutAt
   same-gather s =
-      let k : Kind = kindOf (c .table .kind) in
-      let l : Layout = layoutOf k (c .table .width) (c .table .size) in
+      let k : Kind = kindAt c in
+      let l : Layout = layoutAt c in
       let un : Bool = copiesUnderNull k (c .table .size) in
       let v : Rows = rowsBy k un l c in
       let w : Rows = rowsBy k un l d in
@@ -53,12 +53,12 @@ module _ (c : Column) (values offsets validity : List ℕ) (x : IndexColumn) (o 
             let p : (passes (formRefusal c x) ≡ true) × (passes (rangeRefusal (c .table .rows) x) ≡ true) = orElse-passes (formRefusal c x) (rangeRefusal (c .table .rows) x) h in
             let q : WellFormed c × (passes (indexRefusal x) ≡ true) = form-passed c x (p .0) in
             let f : Formed k l c = formed c (q .0) in
-            let g : GoodRuns c values offsets validity l = good-runs c values offsets validity k l (run-kind k c (f .goodKind)) f in
+            let g : GoodRuns c values offsets validity l = good-runs c values offsets validity k l (run-kind-at c (f .goodKind)) f in
             taken-cong v x (q .1) (λ i b r. sym (valid-same (c .table .«validity_bit») (c .table .rows) (s .validity) i b))
             (λ i b r. entries-same c values offsets validity l s i b) (λ i b r. bytes-same c values offsets validity l g s i b) (in-range (c .table .rows) x (p .1)) a o
         | false ↦ λ h. finish-refused a (takeRows v x) (takeRows w x) o h
       ] in
-      rw (gather-stages c x o, gather-stages d x o, form-same c values offsets validity k l x s) (same (passes a) refl)
+      rw (gather-stages c x o, rowsOf-by c, gather-stages d x o, form-same c values offsets validity x s, rows-like c d refl refl refl) (same (passes a) refl)
 
 pub column-needed : (c d : Column) (x : IndexColumn) (o : Output) → SameNeeded c d → gather d x o ≡ gather c x o
 column-needed c d x o s =
@@ -96,8 +96,7 @@ module _ (c : Column) (x : IndexColumn) (values validity : List ℕ) (o : Output
     same-range n = first-cong (x .indices .count) (λ j h. rw (index-valid-same x values validity s j h, index-same x values validity s j h))
 
     same-form : formRefusal c x ≡ formRefusal c y
-    unfolding formRefusal
-    same-form = sym (index-form-same x values validity s (kindAt c) (layoutAt c) c)
+    same-form = sym (index-form-same x values validity s c)
 
     same-index-gather : gather c x o ≡ gather c y o
     unfolding rangeRefusal

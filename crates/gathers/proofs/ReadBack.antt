@@ -1,18 +1,18 @@
 -- The round trip: rows that are stored are read back from the output buffers. Assumes nothing.
 use mathlib.Core.Path.{_≡_, refl, sym, ap, _∙_}
 use mathlib.Core.Bool.{Bool, true, false, cond, _||_}
-use mathlib.Core.List.{List, [], _∷_}
+use mathlib.Core.List.{[], _∷_}
 use Prim.Native.Nat.{ℕ, zero, suc, _-_, _+_, _*_, _^_, _≤_, _<_}
 use native.Mathlib.Nat.{lt-of-le-of-lt, zero-add, le-trans, mul-le-mul-right}
 use native.Mathlib.Omega.{arith}
-use lib.ListN.{length, drop, length-append}
+use lib.ListN.{length, drop}
 use lib.Dec.{eqb, ltb, lit<}
-use borrow.Author.Tests.{ne-eqb, ltb-false, eqb-true}
+use borrow.Author.Tests.{ltb-false, eqb-true}
 use Rattle.bits.specs.Sequences.{concat, first}
 use Rattle.bits.specs.Bytes.{overwrite}
 use Rattle.bits.specs.Numbers.{numberAt}
-use Rattle.bits.specs.Bits.{bitValue, bitAt, pack, isAbsent, validAt}
-use Rattle.tables.specs.Kinds.{kindOf, layoutOf, isOffsetWidth, copiesUnderNull}
+use Rattle.bits.specs.Bits.{bitValue, bitAt, pack}
+use Rattle.tables.specs.Kinds.{isOffsetWidth, copiesUnderNull}
 use Rattle.tables.specs.Columns.{Column, IndexColumn, kindAt, layoutAt, offsetAt, index}
 use Rattle.tables.specs.Answers.{passes}
 use Rattle.tables.specs.Refusals.{maxRows, maxBytes, indexRefusal, WellFormed}
@@ -22,17 +22,18 @@ use Rattle.tables.specs.declared.table.Layout.{Layout}
 use Rattle.tables.specs.declared.table.Layout.the-variants.{Blocks, Bits, Runs}
 use Rattle.gathers.specs.Taken.{takenValid, names, takeRows}
 use Rattle.gathers.specs.Stored.{Output, validityBytes, startOf, offsetBytes, isSet, valueBytes, storeOffsets, store, outputColumn}
-use Rattle.gathers.specs.Gather.{outOfRange, overflowAt, gather}
+use Rattle.gathers.specs.Gather.{outOfRange, overflowAt, overflowRefusal, gather}
 use Rattle.bits.proofs.Sequences.{sum-const, sum-mono, sum-le, part-block, part-run, first-before}
 use Rattle.bits.proofs.Numbers.{numberAt-concat}
-use Rattle.bits.proofs.Bits.{length-pack, bitAt-pack, bitAt-append}
+use Rattle.bits.proofs.Bits.{bitAt-packed, validAt-packed}
 use Rattle.tables.proofs.Offsets.{RunFacts, run-facts}
-use Rattle.tables.proofs.Facts.{RunKind, run-kind, Formed, formed, form-passed, IndexFormed, index-formed}
+use Rattle.tables.proofs.Facts.{RunKind, Formed, formed, form-passed, IndexFormed, index-formed}
 use Rattle.tables.proofs.Rows.{regular-column, run-entries}
 use Rattle.gathers.proofs.Stages.{in-range, Passed, no-overflow}
 use Rattle.gathers.proofs.Reach.{named-in-range, taken-named}
 use Rattle.gathers.proofs.Regular.{regular-take}
 use Rattle.gathers.proofs.Cases.{gathered-passed, gathered-stored}
+use Rattle.tables.proofs.Views.{offsetAt-number, run-kind-at, rows-like, rowsOf-by}
 
 -- the output buffers as a column like c
 abbrev pub storedColumn : Layout → Column → Rows → Output → Column
@@ -51,17 +52,10 @@ storedColumn l c v o = record {
   validity = overwrite (validityBytes v) (o .validity);
 }
 
-bitAt-stored : (n : ℕ) (g : ℕ → Bool) (s : List ℕ) (i : ℕ) → i < n → bitAt (overwrite (pack n g) s) (0 + i) ≡ g i
-bitAt-stored n g s i h =
-    rw zero-add (bitAt-append (pack n g) (drop (length (pack n g)) s) i (omega (arith, length-pack n g)) ∙ bitAt-pack n g i h)
-
 module _ (k : Kind) (un : Bool) (c : Column) (v : Rows) (o : Output) where
   pub valid-back : (l : Layout) (i : ℕ) → i < v .count → rowsBy k un l (storedColumn l c v o) .valid i ≡ v .valid i
-  unfolding validAt validityBytes
-  valid-back l i h =
-      let s : List ℕ = overwrite (pack (v .count) (v .valid)) (o .validity) in
-      let p : isAbsent s ≡ false = ne-eqb (length s) 0 (λ e. omega (arith, length-append (pack (v .count) (v .valid)) (drop (length (pack (v .count) (v .valid))) (o .validity)), length-pack (v .count) (v .valid))) in
-      rw p (bitAt-stored (v .count) (v .valid) (o .validity) i h)
+  unfolding validityBytes
+  valid-back l i h = validAt-packed (v .count) (v .valid) (drop (length (pack (v .count) (v .valid))) (o .validity)) i h
 
   pub blocks-back : (n : ℕ) → ((i : ℕ) → i < v .count → length (v .bytes i) ≡ n) → (i : ℕ) → i < v .count → rowBytes (Blocks n) (storedColumn (Blocks n) c v o) i ≡ v .bytes i
   unfolding valueBytes
@@ -69,13 +63,14 @@ module _ (k : Kind) (un : Bool) (c : Column) (v : Rows) (o : Output) where
 
   pub bits-back : (i : ℕ) → i < v .count → rowBytes Bits (storedColumn Bits c v o) i ≡ bitValue (isSet (v .bytes i)) ∷ []
   unfolding valueBytes
-  bits-back i h = ap (λ (b : Bool). bitValue b ∷ []) (bitAt-stored (v .count) (λ j. isSet (v .bytes j)) (o .values) i h)
+  bits-back i h = ap (λ (b : Bool). bitValue b ∷ []) (ap (bitAt (storedColumn Bits c v o .values)) (zero-add i) ∙ bitAt-packed (v .count) (λ j. isSet (v .bytes j)) (drop (length (pack (v .count) (λ j. isSet (v .bytes j)))) (o .values)) i h)
 
   module _ (u : ℕ) (width : v .offsetWidth ≡ c .table .«offset_width») (small : startOf v (v .count) < 256 ^ (v .offsetWidth)) where
     pub offset-back : (i : ℕ) → i ≤ v .count → offsetAt (storedColumn (Runs u) c v o) i ≡ startOf v i
-    unfolding offsetAt offsetBytes startOf
+    unfolding offsetBytes startOf
     offset-back i h =
-        ap (λ (w : ℕ). numberAt w (storedColumn (Runs u) c v o .offsets) i) (sym width)
+        offsetAt-number (storedColumn (Runs u) c v o) i
+        ∙ ap (λ (w : ℕ). numberAt w (storedColumn (Runs u) c v o .offsets) i) (sym width)
         ∙ numberAt-concat (v .offsetWidth) (suc (v .count)) (startOf v) (drop (length (offsetBytes v)) (o .offsets)) i (omega arith)
         (lt-of-le-of-lt (sum-mono (v .count) (v .entries) h) small)
 
@@ -155,17 +150,19 @@ module _ (k : Kind) (un : Bool) (c : Column) (x : IndexColumn) (index-ok : Index
 -- ---- the theorem: the output of a gather, read by the row view as a column of the same kind, has exactly the taken rows
 pub reads-back : (c : Column) (x : IndexColumn) (o : Output) → gather c x o .answer .number ≡ 0
     → ReadsAs (rowsOf (outputColumn c (x .indices .count) (gather c x o .output))) (takeRows (rowsOf c) x)
-unfolding rowsOf kindAt layoutAt store
+unfolding store
 reads-back c x o e =
-    let k : Kind = kindOf (c .table .kind) in
-    let l : Layout = layoutOf k (c .table .width) (c .table .size) in
+    let k : Kind = kindAt c in
+    let l : Layout = layoutAt c in
     let un : Bool = copiesUnderNull k (c .table .size) in
     let v : Rows = takeRows (rowsBy k un l c) x in
     let p : Passed c x o = gathered-passed c x o e in
     let q : WellFormed c × (passes (indexRefusal x) ≡ true) = form-passed c x (p .form) in
     let f : Formed k l c = formed c (q .0) in
-    let s : Storable l (c .table .«offset_width») v = taken-storable k un c x (index-formed x (q .1)) (in-range (c .table .rows) x (p .range)) l (run-kind k c (f .goodKind)) f (no-overflow v (p .overflow)) in
-    rw (gathered-stored c x o e)
+    let w : passes (overflowRefusal v) ≡ true = rw (rowsOf-by c) at (p .overflow) in
+    let s : Storable l (c .table .«offset_width») v = taken-storable k un c x (index-formed x (q .1)) (in-range (c .table .rows) x (p .range)) l (run-kind-at c (f .goodKind)) f (no-overflow v w) in
+    let d : Column = outputColumn c (x .indices .count) (store v o) in
+    rw (gathered-stored c x o e, rowsOf-by c, rows-like c d refl refl refl)
     (record {
       count = refl;
       valid = valid-back k un c v o l;

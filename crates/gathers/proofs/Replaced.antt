@@ -7,7 +7,7 @@ use native.Mathlib.Nat.{lt-of-le-of-lt}
 use native.Mathlib.Omega.{arith}
 use lib.Dec.{ltb}
 use lib.ListN.{length, drop, replicate, length-replicate}
-use borrow.Author.Tests.{ltb-false, le-ltb, ne-eqb}
+use borrow.Author.Tests.{ltb-false, le-ltb}
 use Rattle.bits.specs.Sequences.{concat, sum}
 use Rattle.bits.specs.Bytes.{part, overwrite}
 use Rattle.bits.specs.Numbers.{numberAt, toLittleEndian}
@@ -17,18 +17,10 @@ use Rattle.gathers.specs.Blank.{validityWith, validityBitWith}
 use Rattle.bits.proofs.Sequences.{sum-mono, part-block, length-blocks}
 use Rattle.bits.proofs.Bytes.{length-overwrite}
 use Rattle.bits.proofs.Numbers.{length-toLittleEndian, numberAt-concat}
-use Rattle.bits.proofs.Bits.{length-replaceBits, bitAt-replaceBits}
+use Rattle.bits.proofs.Bits.{length-replaceBits, validAt-replaceBits}
 use Rattle.bits.proofs.Tests.{or-false, false-or, and-false-right}
 
 -- ---- validity
-
-present : (s : List ℕ) → 0 < length s → isAbsent s ≡ false
-present s h = ne-eqb (length s) 0 (λ e. omega arith)
-
-validAt-replaceBits : (s : List ℕ) (b n : ℕ) (g : ℕ → Bool) → bytesFor (b + n) ≤ length s → (i : ℕ) → i < n → validAt (replaceBits s b n g) b i ≡ g i
-unfolding validAt
-validAt-replaceBits s b n g h i l =
-    rw (present (replaceBits s b n g) (omega (arith, length-replaceBits s b n g))) (bitAt-replaceBits s b n g i l h)
 
 pub validAt-with : (s : List ℕ) (b n : ℕ) (g : ℕ → Bool) → validityShort (length s) b n ≡ false
     → (i : ℕ) → i < n → validAt (validityWith s b n g) (validityBitWith s b) i ≡ g i

@@ -13,6 +13,7 @@ use Rattle.gathers.specs.Taken.{takeRows}
 use Rattle.gathers.specs.Stored.{Output, store}
 use Rattle.gathers.specs.Gather.{outOfRange, rangeLines, overflowAt, overflowLines, spaceLines, rangeRefusal, overflowRefusal, spaceRefusal, refusals, Outcome, gathered, conclude, gather}
 use Rattle.tables.proofs.Lines.{Refusing, firstOf-append, refusing-append, none-met-passes, orElse-passes}
+use Rattle.tables.proofs.Views.{formRefusal-lines}
 
 -- the rows v, after the tests before overflow gave a
 unfoldable pub finish : Answer → Rows → Output → Outcome
@@ -29,13 +30,13 @@ module _ (c : Column) (x : IndexColumn) (o : Output) where
   form-refusing = (refl, (refl, (refl, (refl, tt))))
 
   pub by-stages : firstOf (refusals c x o) ≡ formRefusal c x orElse rangeRefusal (c .table .rows) x orElse overflowRefusal v orElse spaceRefusal v o
-  unfolding refusals formRefusal rangeRefusal overflowRefusal spaceRefusal
+  unfolding refusals rangeRefusal overflowRefusal spaceRefusal
   by-stages =
       let r : List Line = rangeLines (c .table .rows) x in
       let w : List Line = overflowLines v in
       let s : List Line = spaceLines v o in
       let two : Refusing (form ++ r) = refusing-append form r form-refusing (refl, tt) in
-      rw (firstOf-append (form ++ r ++ w) s (refusing-append (form ++ r) w two (refl, tt)), firstOf-append (form ++ r) w two, firstOf-append form r form-refusing)
+      rw (formRefusal-lines c x, firstOf-append (form ++ r ++ w) s (refusing-append (form ++ r) w two (refl, tt)), firstOf-append (form ++ r) w two, firstOf-append form r form-refusing)
 
   pub gather-stages : gather c x o ≡ finish (formRefusal c x orElse rangeRefusal (c .table .rows) x) v o
   unfolding gather finish

@@ -3,3 +3,4 @@ pub mod Facts
 pub mod Offsets
 pub mod Rows
 pub mod Needed
+pub mod Views

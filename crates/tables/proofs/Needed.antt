@@ -14,15 +14,16 @@ use Rattle.bits.specs.Bits.{bitValue, bitAt, bytesFor, validAt}
 use Rattle.tables.specs.declared.table.Kind.{Kind}
 use Rattle.tables.specs.declared.table.Layout.{Layout}
 use Rattle.tables.specs.declared.table.Layout.the-variants.{Blocks, Bits, Runs}
-use Rattle.tables.specs.Columns.{Column, IndexColumn, offsetAt, indexValid, index}
+use Rattle.tables.specs.Columns.{Column, IndexColumn, kindAt, layoutAt, offsetAt, indexValid, index}
 use Rattle.tables.specs.Answers.{firstOf}
-use Rattle.tables.specs.Refusals.{isBadOffset, badOffset, formLines}
+use Rattle.tables.specs.Refusals.{isBadOffset, badOffset, formLines, formRefusal}
 use Rattle.tables.specs.Rows.{rowBytes, rowEntries}
 use Rattle.tables.specs.Needed.{Alike, SameNeededAt, SameIndexNeeded}
 use Rattle.bits.proofs.Sequences.{first-cong}
 use Rattle.bits.proofs.Bytes.{part-take}
 use Rattle.bits.proofs.Numbers.{numberAt-cong}
 use Rattle.bits.proofs.Bits.{bitAt-cong}
+use Rattle.tables.proofs.Views.{kind-like, layout-like}
 use Rattle.tables.proofs.Offsets.{RunFacts, rises, offsets-mono}
 
 part-same : (m : ℕ) (a b : List ℕ) → take m a ≡ take m b → (p n : ℕ) → p + n ≤ m → part p n a ≡ part p n b
@@ -57,8 +58,13 @@ module _ (c : Column) (values offsets validity : List ℕ) where
   bad-same Bits s = refl
   bad-same (Runs u) s = first-cong (suc (c .table .rows)) (bad-offset-same u s)
 
-  pub form-same : (k : Kind) (l : Layout) (x : IndexColumn) → SameNeededAt l c d → firstOf (formLines k l d x) ≡ firstOf (formLines k l c x)
-  form-same k l x s = rw (bad-same l s, s .values .lengths, s .offsets .lengths, s .validity .lengths)
+  lines-same : (k : Kind) (l : Layout) (x : IndexColumn) → SameNeededAt l c d → firstOf (formLines k l d x) ≡ firstOf (formLines k l c x)
+  lines-same k l x s = rw (bad-same l s, s .values .lengths, s .offsets .lengths, s .validity .lengths)
+
+  pub form-same : (x : IndexColumn) → SameNeededAt (layoutAt c) c d → formRefusal d x ≡ formRefusal c x
+  unfolding formRefusal
+  form-same x s =
+      rw (kind-like c d refl refl refl, layout-like c d refl refl refl) (lines-same (kindAt c) (layoutAt c) x s)
 
   pub entries-same : (l : Layout) → SameNeededAt l c d → (i : ℕ) → i < c .table .rows → rowEntries l c i ≡ rowEntries l d i
   entries-same (Blocks n) s i h = refl
@@ -101,5 +107,6 @@ module _ (x : IndexColumn) (values validity : List ℕ) where
         let w : ℕ = x .indices .width in
         sym (numberAt-cong w (x .indices .count * w) values (x .values) j (s .values .front) (inside j (x .indices .count) w h))
 
-    pub index-form-same : (k : Kind) (l : Layout) (c : Column) → firstOf (formLines k l c y) ≡ firstOf (formLines k l c x)
-    index-form-same k l c = rw (s .values .lengths, s .validity .lengths)
+    pub index-form-same : (c : Column) → formRefusal c y ≡ formRefusal c x
+    unfolding formRefusal
+    index-form-same c = rw (s .values .lengths, s .validity .lengths)
