@@ -224,3 +224,8 @@ pub validAt-packed : (n : ℕ) (g : ℕ → Bool) (s : List ℕ) (i : ℕ) → i
 unfolding validAt
 validAt-packed n g s i h =
     rw (present (pack n g ++ s) (omega (arith, length-append (pack n g) s, length-pack n g)), zero-add i) (bitAt-packed n g s i h)
+
+-- validity that agrees in its bytes
+pub validAt-cong : (m : ℕ) (v w : List ℕ) (b i : ℕ) → length v ≡ length w → take m v ≡ take m w → b + i < 8 * m → validAt v b i ≡ validAt w b i
+unfolding validAt
+validAt-cong m v w b i l e h = rw (l, bitAt-cong m v w (b + i) e h)

@@ -11,3 +11,4 @@ pub mod Cases
 pub mod Trials
 pub mod Needed
 pub mod Trial10
+pub mod Used

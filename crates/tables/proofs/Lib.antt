@@ -4,3 +4,4 @@ pub mod Offsets
 pub mod Rows
 pub mod Needed
 pub mod Views
+pub mod Used

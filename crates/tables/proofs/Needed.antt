@@ -22,7 +22,7 @@ use Rattle.tables.specs.Needed.{Alike, SameNeededAt, SameIndexNeeded}
 use Rattle.bits.proofs.Sequences.{first-cong}
 use Rattle.bits.proofs.Bytes.{part-take}
 use Rattle.bits.proofs.Numbers.{numberAt-cong}
-use Rattle.bits.proofs.Bits.{bitAt-cong}
+use Rattle.bits.proofs.Bits.{bitAt-cong, validAt-cong}
 use Rattle.tables.proofs.Views.{kind-like, layout-like}
 use Rattle.tables.proofs.Offsets.{RunFacts, rises, offsets-mono}
 
@@ -30,8 +30,7 @@ part-same : (m : ℕ) (a b : List ℕ) → take m a ≡ take m b → (p n : ℕ)
 part-same m a b e p n h = sym (part-take p n m a h) ∙ ap (part p n) e ∙ part-take p n m b h
 
 pub valid-same : (b n : ℕ) {v w : List ℕ} → Alike (bytesFor (b + n)) v w → (i : ℕ) → i < n → validAt v b i ≡ validAt w b i
-unfolding validAt
-valid-same b n {v} {w} a i h = rw (a .lengths, bitAt-cong (bytesFor (b + n)) v w (b + i) (a .front) (omega arith))
+valid-same b n {v} {w} a i h = validAt-cong (bytesFor (b + n)) v w b i (a .lengths) (a .front) (omega arith)
 
 -- element i of m numbers of w bytes lies in their bytes
 inside : (i m w : ℕ) → i < m → i * w + w ≤ m * w
