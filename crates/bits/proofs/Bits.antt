@@ -1,4 +1,4 @@
--- Laws of packed bits (specs/Bits.antt): what is packed is read back, and the ones of packed bits. Assumes nothing.
+-- Laws of packed bits and validity (specs/Bits.antt): what is packed is read back, the ones of packed bits, and the steps of loops that pack. Assumes nothing.
 use mathlib.Core.Path.{_≡_, refl, sym, ap, _∙_}
 use mathlib.Core.Bool.{Bool, true, false, cond, _&&_}
 use mathlib.Core.List.{List, [], _∷_, _++_}
@@ -172,16 +172,17 @@ packBytes-add k m g =
     ∙ ap (λ (t : List ℕ). packBytes k g ++ t)
     (concat-cong m (λ i l. ap (λ (b : ℕ). b ∷ []) (byteOf-cong (λ j h. ap g (omega arith)))))
 
-packBytes-one : (k : ℕ) (g : ℕ → Bool) → packBytes (k + 1) g ≡ packBytes k g ++ (byteOf (λ j. g (8 * k + j)) ∷ [])
+-- one more byte
+pub packBytes-step : (k : ℕ) (g : ℕ → Bool) → packBytes (k + 1) g ≡ packBytes k g ++ (byteOf (λ j. g (8 * k + j)) ∷ [])
 unfolding packBytes
-packBytes-one k g = rw add-one
+packBytes-step k g = rw add-one
 
 -- the store of a loop that packs a byte a turn
 pub packBytes-set : (k : ℕ) (g : ℕ → Bool) (s : List ℕ) → k < length s
     → set (overwrite (packBytes k g) s) k (byteOf (λ j. g (8 * k + j))) ≡ overwrite (packBytes (k + 1) g) s
 packBytes-set k g s h =
     overwrite-set-at (packBytes k g) s (byteOf (λ j. g (8 * k + j))) k (length-packBytes k g) h
-    ∙ ap (λ (t : List ℕ). overwrite t s) (sym (packBytes-one k g))
+    ∙ ap (λ (t : List ℕ). overwrite t s) (sym (packBytes-step k g))
 
 -- ---- set bits
 

@@ -50,7 +50,7 @@ overwrite-tail a b s n e =
     subst (λ (k : ℕ). take k (overwrite a s) ++ overwrite b (drop k (overwrite a s)) ≡ overwrite (a ++ b) s) e
     (rw (take-overwrite a s, drop-overwrite a s) (sym (overwrite-step a b s)))
 
--- b hides a that is not longer
+-- b hides an a that is not longer
 pub overwrite-over : (a b s : List ℕ) → length a ≤ length b → overwrite b (overwrite a s) ≡ overwrite b s
 overwrite-over a b s h =
     let j : ℕ = length b - length a in

@@ -1,4 +1,4 @@
--- Laws of little-endian numbers (specs/Numbers.antt): what is written is read back, and the steps of loops. Assumes nothing.
+-- Laws of little-endian numbers (specs/Numbers.antt): what is written is read back, bounds, halves, and the steps of loads and loops. Assumes nothing.
 use mathlib.Core.Path.{_≡_, refl, sym, ap, _∙_}
 use mathlib.Core.Bool.{Bool, true, false, false≢true}
 use mathlib.Core.List.{List, [], _∷_, _++_}

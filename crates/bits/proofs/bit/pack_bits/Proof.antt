@@ -13,13 +13,15 @@ use Rattle.bits.proofs.bit.pack_bits.Statement.{statement}
 use Rattle.bits.proofs.bit.pack_bits.Tie as tie
 
 abbrev Inv-loop : tie.InvT-loop
-Inv-loop src bit-offset n out₀ q shift k₀ out k = (8 * k ≤ n) × (out ≡ overwrite (packBytes k (λ p. ltb p n && bitAt src (bit-offset + p))) out₀) × (length out ≡ length out₀)
+Inv-loop src bit-offset n out₀ q shift k₀ out k =
+    (8 * k ≤ n) × (out ≡ overwrite (packBytes k (λ p. ltb p n && bitAt src (bit-offset + p))) out₀) × (length out ≡ length out₀)
 
 abbrev μ-loop : tie.MeasureT-loop
 μ-loop src bit-offset n out₀ q shift k₀ out k = n - k
 
 abbrev Inv-loop2 : tie.InvT-loop2
-Inv-loop2 src bit-offset n out₀ q shift k₀ out k = (k ≤ bytesFor n) × (out ≡ overwrite (packBytes k (λ p. ltb p n && bitAt src (bit-offset + p))) out₀) × (length out ≡ length out₀)
+Inv-loop2 src bit-offset n out₀ q shift k₀ out k =
+    (k ≤ bytesFor n) × (out ≡ overwrite (packBytes k (λ p. ltb p n && bitAt src (bit-offset + p))) out₀) × (length out ≡ length out₀)
 
 abbrev μ-loop2 : tie.MeasureT-loop2
 μ-loop2 src bit-offset n out₀ q shift k₀ out k = bytesFor n - k
@@ -51,11 +53,12 @@ loop-less c = search needs
 
 loop-again : tie.Need-loop-again Inv-loop μ-loop Inv-loop2 μ-loop2
 loop-again c =
-    let a = c .before .before .before .before .before .before .before .before .before .args in
-    let at = c .before .before .before .before .before .before .loop in
-    let t = c .before .before .before .before .before .loop-test .taken in (
+    let w = c .before .before .before in
+    let at = w .before .before .before .loop in
+    let a = w .before .before .before .before .before .before .args in
+    let t = w .before .before .loop-test .taken in (
       omega (arith, t),
-      packed-word (a .src .now) (a .out .now) (a .bit-offset) (a .n) (at .k) (at .inv .1) (c .before .before .before .word-from .result) (omega (arith, t)) (c .before .before .before .word-from .ensures) (c .before .before .write-u64 .ensures),
+      packed-word (a .src .now) (a .out .now) (a .bit-offset) (a .n) (at .k) (at .inv .1) (w .word-from .result) (omega (arith, t)) (w .word-from .ensures) (c .before .before .write-u64 .ensures),
       c .before .before .write-u64 .kept .0 ∙ at .inv .2,
     )
 
@@ -81,7 +84,9 @@ byte-from-requires : tie.Need-byte-from-requires Inv-loop μ-loop Inv-loop2 μ-l
 byte-from-requires c κs = ((omega arith, omega arith, omega arith), omega arith)
 
 slice-write-out : tie.Need-slice-write-out Inv-loop μ-loop Inv-loop2 μ-loop2
-slice-write-out c = omega (arith, c .before .before .loop2 .inv, c .before .before .before .before .loop .inv, c .before .before .before .before .before .before .before .pre)
+slice-write-out c =
+    let first = c .before .before .before .before in
+    omega (arith, c .before .before .loop2 .inv, first .loop .inv, first .before .before .before .pre)
 
 add-k-2 : tie.Need-add-k-2 Inv-loop μ-loop Inv-loop2 μ-loop2
 add-k-2 c = search needs
@@ -91,11 +96,13 @@ loop2-less c = search needs
 
 loop2-again : tie.Need-loop2-again Inv-loop μ-loop Inv-loop2 μ-loop2
 loop2-again c =
-    let a = c .before .before .before .before .before .before .before .args in
     let at = c .before .before .loop2 in
-    let l : at .k < length (c .before .before .before .before .loop .out) = omega (arith, c .before .before .before .before .loop .inv, c .before .before .before .before .before .before .before .pre) in (
+    let first = c .before .before .before .before in
+    let a = first .before .before .before .args in
+    let d = first .loop .out in
+    let l : at .k < length d = omega (arith, first .loop .inv, first .before .before .before .pre) in (
       omega arith,
-      packed-byte (a .src .now) (c .before .before .before .before .loop .out) (a .bit-offset) (a .n) (at .k) (at .inv .1) l (c .before .loop2-test .taken) (c .byte-from .ensures),
+      packed-byte (a .src .now) d (a .bit-offset) (a .n) (at .k) (at .inv .1) l (c .before .loop2-test .taken) (c .byte-from .ensures),
       length-set (at .out) (at .k) (c .byte-from .result) ∙ at .inv .2,
     )
 

@@ -31,10 +31,15 @@ read-u64-requires-2 : tie.Need-read-u64-requires-2 Inv-loop μ-loop
 read-u64-requires-2 c κs = search needs
 
 write-u64-requires : tie.Need-write-u64-requires Inv-loop μ-loop
-write-u64-requires c κs = omega (arith, c .before .before .before .loop-test .taken, c .before .before .before .before .loop .inv, c .before .before .before .before .before .before .before .pre)
+write-u64-requires c κs =
+    let at = c .before .before .before .before in
+    omega (arith, c .before .before .before .loop-test .taken, at .loop .inv, at .before .before .before .pre)
 
 write-u64-requires-2 : tie.Need-write-u64-requires-2 Inv-loop μ-loop
-write-u64-requires-2 c κs = omega (arith, c .before .before .before .before .before .before .before .loop-test .taken, c .before .before .before .before .before .before .before .before .loop .inv, c .before .before .before .before .before .before .before .before .before .before .before .pre, c .before .before .before .write-u64 .kept .0)
+write-u64-requires-2 c κs =
+    let front = c .before .before .before in
+    let at = front .before .before .before .before .before in
+    omega (arith, front .before .before .before .before .loop-test .taken, at .loop .inv, at .before .before .before .pre, front .write-u64 .kept .0)
 
 add-k : tie.Need-add-k Inv-loop μ-loop
 add-k c = search needs
@@ -54,8 +59,11 @@ loop-again c =
     let g = read .before .before .before .before .before .shared-slice-known .given in
     let one = copied-number 8 (at .k) s d g (omega (arith, t)) (at .inv .1) (read .before .read-u64 .ensures) (front .write-u64 .ensures) in
     let two = copied-number 8 (at .k + 8) s d g (omega (arith, t)) one (read .read-u642 .ensures) (c .before .before .write-u642 .ensures) in
-    let e : at .k + 8 + 8 ≡ at .k + 16 = omega arith in
-    (omega (arith, t), two ∙ ap (λ (m : ℕ). overwrite (take m s) d) e, c .before .before .write-u642 .kept .0 ∙ front .write-u64 .kept .0 ∙ at .inv .2)
+    let e : at .k + 8 + 8 ≡ at .k + 16 = omega arith in (
+      omega (arith, t),
+      two ∙ ap (λ (m : ℕ). overwrite (take m s) d) e,
+      c .before .before .write-u642 .kept .0 ∙ front .write-u64 .kept .0 ∙ at .inv .2,
+    )
 
 sub-first : tie.Need-sub-first Inv-loop μ-loop
 sub-first c = search needs
@@ -70,13 +78,20 @@ read-u64-requires-4 : tie.Need-read-u64-requires-4 Inv-loop μ-loop
 read-u64-requires-4 c κs = search needs
 
 write-u64-requires-3 : tie.Need-write-u64-requires-3 Inv-loop μ-loop
-write-u64-requires-3 c κs = omega (arith, c .before .before .before .before .loop .inv, c .before .before .before .before .before .before .before .pre)
+write-u64-requires-3 c κs =
+    let at = c .before .before .before .before in
+    omega (arith, at .loop .inv, at .before .before .before .pre)
 
 write-u64-requires-4 : tie.Need-write-u64-requires-4 Inv-loop μ-loop
-write-u64-requires-4 c κs = omega (arith, c .before .before .before .before .before .before .before .before .loop .inv, c .before .before .before .before .before .before .before .before .before .before .before .pre, c .before .before .before .write-u643 .kept .0)
+write-u64-requires-4 c κs =
+    let front = c .before .before .before in
+    let at = front .before .before .before .before .before in
+    omega (arith, at .loop .inv, at .before .before .before .pre, front .write-u643 .kept .0)
 
 same-length : tie.Need-same-length Inv-loop μ-loop
-same-length c = c .before .before .write-u644 .kept .0 ∙ c .before .before .before .before .before .before .write-u643 .kept .0 ∙ c .before .before .before .before .before .before .before .before .before .before .before .loop .inv .2
+same-length c =
+    let front = c .before .before .before .before .before .before in
+    c .before .before .write-u644 .kept .0 ∙ front .write-u643 .kept .0 ∙ front .before .before .before .before .before .loop .inv .2
 
 returns : tie.Need-returns Inv-loop μ-loop
 returns c =
@@ -85,7 +100,8 @@ returns c =
     let at = read .before .before .before .loop in
     let f = read .before .before .before .before .before .before in
     let s = f .args .src .now in
-    copied-end 8 (at .k) (length s - 16) s (f .args .dst .now) (read .before .before .before .before .before .shared-slice-known .given) (omega (arith, read .before .before .loop-test .left)) (at .inv .0) (omega (arith, f .pre)) (omega (arith, f .pre)) (at .inv .1)
+    copied-end 8 (at .k) (length s - 16) s (f .args .dst .now) (read .before .before .before .before .before .shared-slice-known .given)
+    (omega (arith, read .before .before .loop-test .left)) (at .inv .0) (omega (arith, f .pre)) (omega (arith, f .pre)) (at .inv .1)
     (read .before .read-u643 .ensures) (read .read-u644 .ensures) (front .write-u643 .ensures) (c .before .before .write-u644 .ensures)
 
 pub copy-long-spec : {M : Type 1} → statement M

@@ -29,7 +29,8 @@ returns c =
     let front = c .before .before .before .before .before .before in
     let read = front .before .before in
     let f = read .before .before .before .before in
-    copied-end 4 0 0 (f .args .src .now) (f .args .dst .now) (c .before .before .before .before .before .before .before .before .before .before .before .shared-slice-known .given) (omega arith) (omega arith) (omega (arith, f .pre)) (omega (arith, f .pre)) refl
+    copied-end 4 0 0 (f .args .src .now) (f .args .dst .now) (read .before .before .before .shared-slice-known .given)
+    (omega arith) (omega arith) (omega (arith, f .pre)) (omega (arith, f .pre)) refl
     (read .before .read-u32 .ensures) (read .read-u322 .ensures) (front .write-u32 .ensures) (c .before .before .write-u322 .ensures)
 
 pub copy-u32s-spec : {M : Type 1} → statement M

@@ -29,7 +29,8 @@ returns c =
     let front = c .before .before .before .before .before .before in
     let read = front .before .before in
     let f = read .before .before .before .before in
-    copied-end 8 0 0 (f .args .src .now) (f .args .dst .now) (c .before .before .before .before .before .before .before .before .before .before .before .shared-slice-known .given) (omega arith) (omega arith) (omega (arith, f .pre)) (omega (arith, f .pre)) refl
+    copied-end 8 0 0 (f .args .src .now) (f .args .dst .now) (read .before .before .before .shared-slice-known .given)
+    (omega arith) (omega arith) (omega (arith, f .pre)) (omega (arith, f .pre)) refl
     (read .before .read-u64 .ensures) (read .read-u642 .ensures) (front .write-u64 .ensures) (c .before .before .write-u642 .ensures)
 
 pub copy-u64s-spec : {M : Type 1} → statement M
