@@ -1,0 +1,31 @@
+-- What the tests of numbers 1 and 2 leave of the numbers that a column uses. Functions that multiply ask for it.
+use Prim.Native.Nat.{ℕ, _*_, _≤_, _<_}
+use mathlib.Core.Path.{_≡_}
+use mathlib.Core.Bool.{true}
+use Rattle.tables.specs.declared.table.Kind.{Kind}
+use Rattle.tables.specs.declared.table.Kind.the-variants.{Primitive, Boolean, VariableBytes, List as ListKind, FixedSizeList, FixedSizeBinary, Unknown}
+use Rattle.tables.specs.declared.table.Layout.{Layout}
+use Rattle.tables.specs.declared.table.Layout.the-variants.{Blocks, Bits, Runs}
+use Rattle.tables.specs.declared.table.Table.{Table}
+use Rattle.tables.specs.Kinds.{isOffsetWidth}
+use Rattle.tables.specs.Refusals.{maxRows, maxBit}
+
+-- the most bytes of a row of a block: 65,536 elements of 32 bytes
+abbrev pub maxBlock : ℕ
+maxBlock = 2_097_152
+
+-- the product of a row's size and width, where the kind multiplies them
+abbrev pub RowFits : Kind → Table → Type 0
+RowFits Primitive t = Unit {0}
+RowFits Boolean t = Unit {0}
+RowFits VariableBytes t = Unit {0}
+RowFits ListKind t = Unit {0}
+RowFits FixedSizeList t = t .size * t .width ≤ maxBlock
+RowFits FixedSizeBinary t = Unit {0}
+RowFits Unknown t = Unit {0}
+
+-- the numbers that a layout uses
+abbrev pub LayoutFits : Layout → Table → Type 0
+LayoutFits (Blocks n) t = n ≤ maxBlock
+LayoutFits Bits t = t .«data_bit» ≤ maxBit
+LayoutFits (Runs u) t = (0 < u) × (isOffsetWidth (t .«offset_width») ≡ true)
