@@ -1,3 +1,4 @@
 pub mod Lines
+pub mod Bounds
 pub mod Facts
 pub mod Offsets

@@ -1,14 +1,16 @@
 -- What the tests of numbers 1 and 2 leave of the numbers that a column uses. Functions that multiply ask for it.
 use Prim.Native.Nat.{ℕ, _*_, _≤_, _<_}
 use mathlib.Core.Path.{_≡_}
-use mathlib.Core.Bool.{true}
+use mathlib.Core.Bool.{true, false}
 use Rattle.tables.specs.declared.table.Kind.{Kind}
 use Rattle.tables.specs.declared.table.Kind.the-variants.{Primitive, Boolean, VariableBytes, List as ListKind, FixedSizeList, FixedSizeBinary, Unknown}
 use Rattle.tables.specs.declared.table.Layout.{Layout}
 use Rattle.tables.specs.declared.table.Layout.the-variants.{Blocks, Bits, Runs}
 use Rattle.tables.specs.declared.table.Table.{Table}
-use Rattle.tables.specs.Kinds.{isOffsetWidth}
-use Rattle.tables.specs.Refusals.{maxRows, maxBit}
+use Rattle.tables.specs.declared.table.Indices.{Indices}
+use Rattle.tables.specs.Kinds.{isOffsetWidth, isIndexWidth}
+use Rattle.tables.specs.Columns.{Column, kindAt, layoutAt}
+use Rattle.tables.specs.Refusals.{maxRows, maxBit, columnForm}
 
 -- the most bytes of a row of a block: 65,536 elements of 32 bytes
 abbrev pub maxBlock : ℕ
@@ -29,3 +31,19 @@ abbrev pub LayoutFits : Layout → Table → Type 0
 LayoutFits (Blocks n) t = n ≤ maxBlock
 LayoutFits Bits t = t .«data_bit» ≤ maxBit
 LayoutFits (Runs u) t = (0 < u) × (isOffsetWidth (t .«offset_width») ≡ true)
+
+-- what a column's table may hold
+pub record Bounds (l : Layout) (t : Table) : Type 0 where
+  pub rows : t .rows ≤ maxRows
+  pub layout : LayoutFits l t
+
+-- what an index column's description may hold
+pub record IndexBounds (x : Indices) : Type 0 where
+  pub width : isIndexWidth (x .width) ≡ true
+  pub count : x .count ≤ maxRows
+
+-- the column passes the tests of numbers 1, 2 and 3
+pub record Sized (c : Column) : Type 0 where
+  pub kind : columnForm (kindAt c) (layoutAt c) c .kind ≡ false
+  pub limit : columnForm (kindAt c) (layoutAt c) c .limit ≡ false
+  pub short : columnForm (kindAt c) (layoutAt c) c .short ≡ false

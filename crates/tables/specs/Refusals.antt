@@ -82,6 +82,14 @@ validityShort bytes b n = not (eqb bytes 0) && ltb bytes (bytesFor (b + n))
 abbrev pub tooShort : Layout → Table → ℕ → ℕ → ℕ → Bool
 tooShort l t values offsets validity = valuesShort l t values offsets || validityShort validity (t .«validity_bit») (t .rows)
 
+-- ---- 2 and 3 of an index column
+
+abbrev pub indexOverLimit : Indices → ℕ → ℕ → Bool
+indexOverLimit x values validity = ltb maxRows (x .count) || ltb maxBytes values || validityOverLimit validity (x .«validity_bit»)
+
+abbrev pub indexTooShort : Indices → ℕ → ℕ → Bool
+indexTooShort x values validity = ltb values (x .count * x .width) || validityShort validity (x .«validity_bit») (x .count)
+
 -- ---- 4: offset i is below 0, below the one before, or above H, the number of entries of u bytes in the data
 
 abbrev pub isBadOffset : ℕ → Column → ℕ → Bool
@@ -117,8 +125,8 @@ columnForm k l c = record {
 abbrev pub indexForm : IndexColumn → Form
 indexForm x = record {
   kind = not (isIndexWidth (x .indices .width));
-  limit = ltb maxRows (x .indices .count) || ltb maxBytes (length (x .values)) || validityOverLimit (length (x .validity)) (x .indices .«validity_bit»);
-  short = ltb (length (x .values)) (x .indices .count * x .indices .width) || validityShort (length (x .validity)) (x .indices .«validity_bit») (x .indices .count);
+  limit = indexOverLimit (x .indices) (length (x .values)) (length (x .validity));
+  short = indexTooShort (x .indices) (length (x .values)) (length (x .validity));
 }
 
 -- a test of two is met where one of them meets it
