@@ -1,4 +1,5 @@
 pub mod Lines
 pub mod Bounds
+pub mod Forms
 pub mod Facts
 pub mod Offsets

@@ -123,3 +123,38 @@ fn index_too_short(x: Indices, values: u64, validity: u64) -> bool
 {
     (values < x.count * x.width) | validity_short(validity, x.validity_bit, x.count)
 }
+
+// Refusals 1, 2 and 3 of a column with an index column. Each test is put to both before the next.
+pub fn check_sizes(
+    table: Table,
+    data: &[u8],
+    offsets: &[u8],
+    validity: &[u8],
+    indices: Indices,
+    index_data: &[u8],
+    index_validity: &[u8],
+) -> Checked
+    ensures { λ r. ⌜ checkedNumbers r ≡ sizesRefusal (columnAt table («data» .entry) (offsets .entry) (validity .entry)) (indexColumnAt indices («index_data» .entry) («index_validity» .entry)) ⌝ }
+{
+    let kind = kind_of(table.kind);
+    if bad_kind(kind, table) | !is_index_width(indices.width) {
+        return Checked::Unfit(Refusal::Kind);
+    }
+    let values = data.len() as u64;
+    let runs = offsets.len() as u64;
+    let bits = validity.len() as u64;
+    let index_values = index_data.len() as u64;
+    let index_bits = index_validity.len() as u64;
+    if over_limit(kind, table, values, runs, bits)
+        | index_over_limit(indices, index_values, index_bits)
+    {
+        return Checked::Unfit(Refusal::Limit);
+    }
+    let layout = layout_of(kind, table);
+    if too_short(layout, table, values, runs, bits)
+        | index_too_short(indices, index_values, index_bits)
+    {
+        return Checked::Unfit(Refusal::Short);
+    }
+    Checked::Fit
+}
