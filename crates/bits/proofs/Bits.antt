@@ -5,11 +5,12 @@ use mathlib.Core.List.{List, [], _∷_, _++_}
 use Prim.Native.Nat.{ℕ, zero, suc, _+_, _-_, _*_, _/_, _%_, _^_, _≤_, _<_}
 use native.Mathlib.Nat.{not-suc-le-zero, le-of-suc-le-suc, mul-assoc, add-zero, add-comm, mul-le-mul-right, pow-suc, pow-succ', two-pow-succ, div-div-eq-div-mul}
 use native.Mathlib.Omega.{arith}
+use lib.Bits.{bitAnd, and-mask}
 use lib.Dec.{eqb, leb, ltb}
 use lib.ListN.{length, getD, List·getD-append}
-use borrow.Author.Tests.{lt-ltb, le-ltb, le-leb, ltb-true}
+use borrow.Author.Tests.{lt-ltb, le-ltb, le-leb, ltb-true, eq-eqb, ne-eqb}
 use Rattle.bits.specs.Sequences.{concat, sum}
-use Rattle.bits.specs.Bits.{bitValue, bitAt, bytesFor, byteOf, packBytes, pack, replaceBits, setBits}
+use Rattle.bits.specs.Bits.{bitValue, bitAt, bytesFor, byteOf, packBytes, pack, replaceBits, setBits, validAt}
 use Rattle.bits.proofs.Sequences.{concat-cong, sum-cong, sum-mul, sum-const, sum-add, sum-zero, sum-head, length-tabulate, getD-tabulate}
 
 pub bitValue-lt : (b : Bool) → bitValue b < 2
@@ -19,6 +20,33 @@ bitValue-lt false = omega arith
 pub bit-test : (b : Bool) → eqb (bitValue b) 1 ≡ b
 bit-test true = refl
 bit-test false = refl
+
+pub bit-value : (x : ℕ) → bitValue (eqb (x % 2) 1) ≡ x % 2
+bit-value x = go (x % 2) (omega arith)
+  where
+    go : (b : ℕ) → b < 2 → bitValue (eqb b 1) ≡ b
+    go zero h = refl
+    go (suc zero) h = refl
+    go (suc (suc b)) h = absurd (omega arith)
+
+-- a bit by a shift and a mask
+pub bitAt-mask : (s : List ℕ) (p : ℕ) → bitAnd (getD s (p / 8) 0 / 2 ^ (p % 8)) 1 ≡ bitValue (bitAt s p)
+unfolding bitAt
+bitAt-mask s p =
+    let x : ℕ = getD s (p / 8) 0 / 2 ^ (p % 8) in
+    and-mask x 1 ∙ sym (bit-value x)
+
+-- ---- validity
+
+pub validAt-absent : (v : List ℕ) (b i : ℕ) → length v ≡ 0 → validAt v b i ≡ true
+unfolding validAt
+validAt-absent v b i e = rw (eq-eqb (length v) 0 e)
+
+pub validAt-present : (v : List ℕ) (b i : ℕ) → (length v ≡ 0 → ⊥) → validAt v b i ≡ bitAt v (b + i)
+unfolding validAt
+validAt-present v b i n = rw (ne-eqb (length v) 0 n)
+
+-- ---- packed bytes
 
 -- a sum of powers of two, one step down
 weights : (n : ℕ) (g : ℕ → Bool) → sum (suc n) (λ j. bitValue (g j) * 2 ^ j) ≡ bitValue (g 0) + 2 * sum n (λ j. bitValue (g (suc j)) * 2 ^ j)

@@ -1,13 +1,13 @@
 -- Laws of parts and of overwritten buffers (specs/Bytes.antt), in the form that loops ask for. Assumes nothing.
 use mathlib.Core.Path.{_≡_, refl, sym, ap, _∙_, subst}
 use mathlib.Core.List.{List, [], _∷_, _++_, append-assoc}
-use Prim.Native.Nat.{ℕ, suc, _+_, _*_, _≤_, _<_}
+use Prim.Native.Nat.{ℕ, suc, _+_, _-_, _*_, _≤_, _<_}
 use native.Mathlib.Nat.{mul-le-mul-right}
 use native.Mathlib.Numerals.{add-one}
 use native.Mathlib.Omega.{arith}
-use lib.ListN.{length, take, drop, set, length-append, length-drop}
-use lib.Seq.{length-take-le, drop-cons, take-at, drop-at, drop-drop, set-append-seam}
-use Rattle.bits.specs.Bytes.{part, overwrite}
+use lib.ListN.{length, take, drop, set, length-append, length-drop, take-append-drop}
+use lib.Seq.{length-take-le, drop-cons, take-at, drop-at, drop-drop, take-take, take-add, take-append-le, take-length, set-append-seam, sets, sets-eq}
+use Rattle.bits.specs.Bytes.{part, overwrite, overwriteAt}
 
 -- ---- lengths
 
@@ -49,3 +49,72 @@ pub overwrite-tail : (a b s : List ℕ) (n : ℕ) → length a ≡ n → take n 
 overwrite-tail a b s n e =
     subst (λ (k : ℕ). take k (overwrite a s) ++ overwrite b (drop k (overwrite a s)) ≡ overwrite (a ++ b) s) e
     (rw (take-overwrite a s, drop-overwrite a s) (sym (overwrite-step a b s)))
+
+-- ---- parts
+
+pub part-add : (p n m : ℕ) (s : List ℕ) → part p (n + m) s ≡ part p n s ++ part (p + n) m s
+part-add p n m s = take-add n m (drop p s) ∙ rw (drop-drop n p s)
+
+-- ---- bytes written at a position
+
+pub length-overwriteAt : (p : ℕ) (e s : List ℕ) → p + length e ≤ length s → length (overwriteAt p e s) ≡ length s
+length-overwriteAt p e s h = simp (length-append, length-drop) (omega (arith, length-take-le p s (omega arith)))
+
+-- a after that b: one after the other, or both at once
+pub overwriteAt-append : (p : ℕ) (a b s : List ℕ) → p ≤ length s → overwriteAt (p + length a) b (overwriteAt p a s) ≡ overwriteAt p (a ++ b) s
+overwriteAt-append p a b s h =
+    let t : List ℕ = take p s ++ a in
+    let l : length t ≡ p + length a = length-append (take p s) a ∙ ap (λ (n : ℕ). n + length a) (length-take-le p s h) in
+    let e : overwriteAt p a s ≡ t ++ drop (length a) (drop p s) = sym (append-assoc (take p s) a (drop (length a) (drop p s))) in
+    rw (e, take-at t (drop (length a) (drop p s)) (p + length a) l, drop-at t (drop (length a) (drop p s)) (p + length a) l)
+    (append-assoc (take p s) a (overwrite b (drop (length a) (drop p s))) ∙ ap (λ (r : List ℕ). take p s ++ r) (sym (overwrite-step a b (drop p s))))
+
+-- the bytes e stored from position p on, one after the other: what a straight line of stores makes
+abbrev pub stores : ℕ → List ℕ → List ℕ → List ℕ
+stores p [] s = s
+stores p (b ∷ e) s = stores (p + 1) e (set s p b)
+
+stores-sets : (p : ℕ) (e s : List ℕ) → stores p e s ≡ sets s p e
+stores-sets p [] s = refl
+stores-sets p (b ∷ e) s = stores-sets (p + 1) e (set s p b) ∙ rw add-one
+
+pub stores-overwriteAt : (p : ℕ) (e s : List ℕ) → p + length e ≤ length s → stores p e s ≡ overwriteAt p e s
+stores-overwriteAt p e s h =
+    stores-sets p e s ∙ sets-eq e s p h ∙ append-assoc (take p s) e (drop (p + length e) s) ∙ rw (← drop-drop (length e) p s)
+
+-- ---- copies, in pieces that may overlap
+
+-- the bytes from p on, after those before p
+pub copy-more : (p n : ℕ) (s d : List ℕ) → p ≤ length s → overwriteAt p (part p n s) (overwrite (take p s) d) ≡ overwrite (take (p + n) s) d
+copy-more p n s d h = overwrite-tail (take p s) (part p n s) d p (length-take-le p s h) ∙ rw (take-add p n s)
+
+-- what is copied already may be copied again
+pub copy-again : (p k : ℕ) (s d : List ℕ) → p ≤ k → k ≤ length s → overwrite (take k s) d ≡ overwrite (take p s) (overwrite (take k s) d)
+copy-again p k s d h l =
+    let lk : length (take k s) ≡ k = length-take-le k s l in
+    let lp : length (take p s) ≡ p = length-take-le p s (omega arith) in
+    let e : take p (overwrite (take k s) d) ≡ take p s = take-append-le p (take k s) (drop (length (take k s)) d) (omega arith) ∙ take-take p k s h in
+    sym (take-append-drop p (overwrite (take k s) d)) ∙ rw (e, lp)
+
+-- a whole copy does not see what a part of it has written
+pub copy-whole : (k : ℕ) (s d : List ℕ) → k ≤ length s → overwrite s (overwrite (take k s) d) ≡ overwrite s d
+copy-whole k s d l =
+    let lk : length (take k s) ≡ k = length-take-le k s l in
+    let j : ℕ = length s - k in
+    let e : length s ≡ k + j = omega arith in
+    ap (λ (t : List ℕ). s ++ t)
+    (ap (λ (n : ℕ). drop n (overwrite (take k s) d)) e
+    ∙ sym (drop-drop j k (overwrite (take k s) d))
+    ∙ ap (drop j) (drop-at (take k s) (drop (length (take k s)) d) k lk ∙ rw lk)
+    ∙ drop-drop j k d
+    ∙ ap (λ (n : ℕ). drop n d) (sym e))
+
+-- the last n bytes, after the first k, wherever the two meet
+pub copy-last : (n k : ℕ) (s d : List ℕ) → n ≤ length s → length s ≤ k + n → k ≤ length s
+    → overwriteAt (length s - n) (part (length s - n) n s) (overwrite (take k s) d) ≡ overwrite s d
+copy-last n k s d h m l =
+    let p : ℕ = length s - n in
+    let e : p + n ≡ length s = omega arith in
+    ap (overwriteAt p (part p n s)) (copy-again p k s d (omega arith) l)
+    ∙ copy-more p n s (overwrite (take k s) d) (omega arith)
+    ∙ rw (e, take-length) (copy-whole k s d l)

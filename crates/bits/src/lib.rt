@@ -1,8 +1,5 @@
-// Bits and numbers in byte buffers.
-ghost use mathlib.Core.Path.{_≡_};
-
-pub fn version() -> u32
-    ensures { λ r. ⌜ r ≡ 1 ⌝ }
-{
-    1
-}
+// Bits and numbers in byte buffers: the leaves that every layer above reads and writes with.
+// Each function's contract is an equation in the definitions of specs/; none has a loop over the bits of a byte or the bytes of a number.
+pub mod bit;
+pub mod number;
+pub mod slice;
