@@ -44,6 +44,9 @@ offset-number-width w = go (eqb w 4) refl
     go true d e = rw (eqb-true w 4 d)
     go false d e = rw (eqb-true w 8 e)
 
+pub offset-width-8 : (w : ℕ) → isOffsetWidth w ≡ true → (w ≡ 4 → ⊥) → w ≡ 8
+offset-width-8 w e n = eqb-true w 8 (rw (ne-eqb w 4 n) at e)
+
 pub width-pos : (w : ℕ) → isWidth w ≡ true → 0 < w
 width-pos zero e = absurd (false≢true e)
 width-pos (suc w) e = omega arith

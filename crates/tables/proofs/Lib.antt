@@ -3,3 +3,4 @@ pub mod Bounds
 pub mod Forms
 pub mod Facts
 pub mod Offsets
+pub mod Scans

@@ -1,7 +1,9 @@
 -- What the tests of numbers 1 and 2 leave of the numbers that a column uses. Functions that multiply ask for it.
-use Prim.Native.Nat.{ℕ, _*_, _≤_, _<_}
+use Prim.Native.Nat.{ℕ, suc, _*_, _≤_, _<_}
 use mathlib.Core.Path.{_≡_}
 use mathlib.Core.Bool.{true, false}
+use mathlib.Core.List.{List}
+use lib.ListN.{length}
 use Rattle.tables.specs.declared.table.Kind.{Kind}
 use Rattle.tables.specs.declared.table.Kind.the-variants.{Primitive, Boolean, VariableBytes, List as ListKind, FixedSizeList, FixedSizeBinary, Unknown}
 use Rattle.tables.specs.declared.table.Layout.{Layout}
@@ -47,3 +49,9 @@ pub record Sized (c : Column) : Type 0 where
   pub kind : columnForm (kindAt c) (layoutAt c) c .kind ≡ false
   pub limit : columnForm (kindAt c) (layoutAt c) c .limit ≡ false
   pub short : columnForm (kindAt c) (layoutAt c) c .short ≡ false
+
+-- the offsets of so many rows, of w bytes each, are there
+pub record Offsets (w rows : ℕ) (s : List ℕ) : Type 0 where
+  pub width : isOffsetWidth w ≡ true
+  pub few : rows ≤ maxRows
+  pub fits : suc rows * w ≤ length s

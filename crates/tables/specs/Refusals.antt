@@ -6,7 +6,7 @@ use mathlib.Core.List.{List, [], _∷_, _++_}
 use lib.Dec.{eqb, leb, ltb}
 use lib.ListN.{length}
 use Rattle.bits.specs.Sequences.{first}
-use Rattle.bits.specs.Numbers.{isNegative}
+use Rattle.bits.specs.Numbers.{numberAt, isNegative}
 use Rattle.bits.specs.Bits.{bytesFor}
 use Rattle.tables.specs.declared.table.Kind.{Kind}
 use Rattle.tables.specs.declared.table.Kind.the-variants.{Primitive, Boolean, VariableBytes, List as ListKind, FixedSizeList, FixedSizeBinary, Unknown}
@@ -97,6 +97,11 @@ isBadOffset u c i =
     isNegative (c .table .«offset_width») (offsetAt c i)
     || (not (eqb i 0) && ltb (offsetAt c i) (offsetAt c (i - 1)))
     || ltb (length (c .values) / u) (offsetAt c i)
+
+-- the same of offset i of the offsets s, of w bytes each, where H is known
+abbrev pub isBadNumber : ℕ → List ℕ → ℕ → ℕ → Bool
+isBadNumber w s most i =
+    isNegative w (numberAt w s i) || (not (eqb i 0) && ltb (numberAt w s i) (numberAt w s (i - 1))) || ltb most (numberAt w s i)
 
 -- the first such offset; rows + 1 where there is none
 abbrev pub badOffset : Layout → Column → ℕ
