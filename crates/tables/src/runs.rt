@@ -15,13 +15,11 @@ fn falls_by(offsets: &[u8], w: usize, rows: usize) -> bool
     ensures { λ r. ⌜ r ≡ any rows (λ k. ltb (numberAt w (now (offsets .entry)) (suc k)) (numberAt w (now (offsets .entry)) k)) ⌝ }
 {
     let mut bad = false;
-    let mut before = number_at(offsets, w, 0);
     let mut i = 0;
     while i < rows {
+        let before = number_at(offsets, w, i);
         i += 1;
-        let offset = number_at(offsets, w, i);
-        bad = bad | (offset < before);
-        before = offset;
+        bad = bad | (number_at(offsets, w, i) < before);
     }
     bad
 }
