@@ -4,3 +4,4 @@ pub mod Forms
 pub mod Facts
 pub mod Offsets
 pub mod Scans
+pub mod Stages

@@ -1,0 +1,88 @@
+-- Refusals 1 to 4 as two stages, sizes and offsets: what a stage that lets pass says, and the answer of the two. Assumes nothing.
+use mathlib.Core.Path.{_≡_, refl, sym, ap, _∙_, subst}
+use mathlib.Core.Bool.{Bool, true, false, cond, not, _||_}
+use mathlib.Core.List.{[]}
+use Prim.Native.Nat.{ℕ, suc, _*_, _/_, _≤_, _<_}
+use native.Mathlib.Nat.{div-le-self}
+use native.Mathlib.Omega.{arith}
+use lib.ListN.{length}
+use borrow.Author.Tests.{ltb-false, le-leb, lt-leb}
+use Rattle.bits.specs.Sequences.{first}
+use Rattle.tables.specs.declared.table.Kind.{Kind}
+use Rattle.tables.specs.declared.table.Layout.{Layout}
+use Rattle.tables.specs.declared.table.Layout.the-variants.{Blocks, Bits, Runs}
+use Rattle.tables.specs.declared.refusal.Answer.{Answer}
+use Rattle.tables.specs.declared.refusal.Refusal.{Refusal}
+use Rattle.tables.specs.declared.refusal.Refusal.the-variants.{Kind as KindRefusal, Limit, Short, Offsets as OffsetsRefusal, Range, Overflow, Space}
+use Rattle.tables.specs.declared.refusal.Checked.{Checked}
+use Rattle.tables.specs.declared.refusal.Checked.the-variants.{Fit, Unfit}
+use Rattle.tables.specs.Kinds.{kindOf, layoutOf}
+use Rattle.tables.specs.Columns.{Column, IndexColumn, kindAt, layoutAt, offsetAt}
+use Rattle.tables.specs.Answers.{refuse, accept, passes, _orElse_, refusalNumbers, checkedNumbers, firstOf}
+use Rattle.tables.specs.Refusals.{maxBytes, valuesShort, validityShort, isBadNumber, badOffset, hasBadOffset, Form, columnForm, indexForm, either, sizeLines, offsetLines, columnRefusal, indexRefusal, formRefusal, sizesRefusal, offsetsRefusal, WellFormed}
+use Rattle.tables.specs.Bounds.{RowFits, LayoutFits, Bounds, Offsets, Sized}
+use Rattle.bits.proofs.Tests.{or-false}
+use Rattle.tables.proofs.Lines.{firstOf-append, none-met}
+use Rattle.tables.proofs.Bounds.{limits, row-fits, bounds, fits-at}
+
+-- ---- a column that passed refusals 1 to 3
+
+-- the layout, as the code finds it
+pub layout-told : (c : Column) {k : Kind} {l : Layout} → k ≡ kindOf (c .table .kind) → l ≡ layoutOf k (c .table .width) (c .table .size) → layoutAt c ≡ l
+unfolding layoutAt kindAt
+layout-told c e d = rw (sym e) (sym d)
+
+module _ (c : Column) (p : Sized c) where
+  pub sized-row-fits : {k : Kind} → k ≡ kindOf (c .table .kind) → RowFits k (c .table)
+  unfolding kindAt
+  sized-row-fits e =
+      let l = limits (kindAt c) (c .table) (length (c .values)) (length (c .offsets)) (length (c .validity)) (p .limit) in
+      rw e (row-fits (kindAt c) (c .table) (length (c .offsets)) (p .kind) (l .used))
+
+  pub sized-bounds : Bounds (layoutAt c) (c .table)
+  unfolding layoutAt
+  sized-bounds = bounds (kindAt c) (c .table) (length (c .values)) (length (c .offsets)) (length (c .validity)) (p .kind) (p .limit)
+
+  pub sized-values : length (c .values) ≤ maxBytes
+  sized-values = limits (kindAt c) (c .table) (length (c .values)) (length (c .offsets)) (length (c .validity)) (p .limit) .bytes
+
+  pub sized-short : valuesShort (layoutAt c) (c .table) (length (c .values)) (length (c .offsets)) ≡ false
+  sized-short =
+      or-false (valuesShort (layoutAt c) (c .table) (length (c .values)) (length (c .offsets)))
+      (validityShort (length (c .validity)) (c .table .«validity_bit») (c .table .rows)) (p .short) .0
+
+  -- of runs of u bytes: their offsets are there
+  module _ (u : ℕ) (e : layoutAt c ≡ Runs u) where
+    pub run-unit : 0 < u
+    run-unit = fits-at sized-bounds e .0
+
+    pub run-offsets : Offsets (c .table .«offset_width») (c .table .rows) (c .offsets)
+    run-offsets = record {
+      width = fits-at sized-bounds e .1;
+      few = sized-bounds .rows;
+      fits = ltb-false (length (c .offsets)) (suc (c .table .rows) * c .table .«offset_width») (rw e at sized-short);
+    }
+
+    pub run-most : length (c .values) / u ≤ maxBytes
+    run-most = omega (arith, sized-values, div-le-self (length (c .values)) u)
+
+-- ---- the answer of refusal 4
+
+module _ (c : Column) where
+  pub offsets-of-blocks : (n : ℕ) → layoutAt c ≡ Blocks n → accept ≡ offsetsRefusal c
+  unfolding offsetsRefusal
+  offsets-of-blocks n e = rw (e, lt-leb (suc (c .table .rows)) (c .table .rows) (omega arith))
+
+  pub offsets-of-bits : layoutAt c ≡ Bits → accept ≡ offsetsRefusal c
+  unfolding offsetsRefusal
+  offsets-of-bits e = rw (e, lt-leb (suc (c .table .rows)) (c .table .rows) (omega arith))
+
+  module _ (u : ℕ) {place : ℕ} (e : layoutAt c ≡ Runs u)
+      (d : place ≡ first (suc (c .table .rows)) (isBadNumber (c .table .«offset_width») (c .offsets) (length (c .values) / u))) where
+    pub offsets-refused : place ≤ c .table .rows → refuse 4 place 0 ≡ offsetsRefusal c
+    unfolding offsetsRefusal offsetAt
+    offsets-refused h = rw (e, sym d, le-leb place (c .table .rows) h)
+
+    pub offsets-accepted : c .table .rows < place → accept ≡ offsetsRefusal c
+    unfolding offsetsRefusal offsetAt
+    offsets-accepted h = rw (e, sym d, lt-leb place (c .table .rows) h)
