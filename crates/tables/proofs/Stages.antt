@@ -1,6 +1,6 @@
 -- Refusals 1 to 4 as two stages, sizes and offsets: what a stage that lets pass says, and the answer of the two. Assumes nothing.
 use mathlib.Core.Path.{_≡_, refl, sym, ap, _∙_, subst}
-use mathlib.Core.Bool.{Bool, true, false, cond, not, _||_}
+use mathlib.Core.Bool.{Bool, true, false, _||_, false≢true}
 use mathlib.Core.List.{[]}
 use Prim.Native.Nat.{ℕ, suc, _*_, _/_, _≤_, _<_}
 use native.Mathlib.Nat.{div-le-self}
@@ -19,7 +19,7 @@ use Rattle.tables.specs.declared.refusal.Checked.the-variants.{Fit, Unfi
 use Rattle.tables.specs.Kinds.{kindOf, layoutOf}
 use Rattle.tables.specs.Columns.{Column, IndexColumn, kindAt, layoutAt, offsetAt}
 use Rattle.tables.specs.Answers.{refuse, accept, passes, _orElse_, refusalNumbers, checkedNumbers, firstOf}
-use Rattle.tables.specs.Refusals.{maxBytes, valuesShort, validityShort, isBadNumber, badOffset, hasBadOffset, Form, columnForm, indexForm, either, sizeLines, offsetLines, columnRefusal, indexRefusal, formRefusal, sizesRefusal, offsetsRefusal, WellFormed}
+use Rattle.tables.specs.Refusals.{maxBytes, valuesShort, validityShort, isBadNumber, badOffset, hasBadOffset, Form, columnForm, indexForm, either, sizeLines, offsetLines, formLines, columnRefusal, indexRefusal, formRefusal, sizesRefusal, offsetsRefusal, WellFormed}
 use Rattle.tables.specs.Bounds.{RowFits, LayoutFits, Bounds, Offsets, Sized}
 use Rattle.bits.proofs.Tests.{or-false}
 use Rattle.tables.proofs.Lines.{firstOf-append, none-met}
@@ -86,3 +86,79 @@ module _ (c : Column) where
     pub offsets-accepted : c .table .rows < place → accept ≡ offsetsRefusal c
     unfolding offsetsRefusal offsetAt
     offsets-accepted h = rw (e, sym d, lt-leb place (c .table .rows) h)
+
+-- ---- the two stages
+
+pub form-stages : (c : Column) (x : IndexColumn) → formRefusal c x ≡ sizesRefusal c x orElse offsetsRefusal c
+unfolding formRefusal sizesRefusal offsetsRefusal
+form-stages c x =
+    firstOf-append (sizeLines (either (columnForm (kindAt c) (layoutAt c) c) (indexForm x))) (offsetLines (layoutAt c) c) (refl, (refl, (refl, tt)))
+
+-- the first stage lets pass: the answer is the second's
+pub stage-passed : (c : Column) (x : IndexColumn) {s : Checked} {a : Answer} → checkedNumbers s ≡ sizesRefusal c x → s ≡ Fit → a ≡ offsetsRefusal c
+    → a ≡ formRefusal c x
+stage-passed c x e f d = rw (form-stages c x, sym e, f) d
+
+refusing : (r : Refusal) → passes (refusalNumbers r) ≡ false
+refusing KindRefusal = refl
+refusing Limit = refl
+refusing Short = refl
+refusing (OffsetsRefusal p) = refl
+refusing (Range p) = refl
+refusing (Overflow p t) = refl
+refusing (Space p t) = refl
+
+-- the first stage refuses: the answer is its own
+pub stage-refused : (c : Column) (x : IndexColumn) {s : Checked} {r : Refusal} → checkedNumbers s ≡ sizesRefusal c x → s ≡ Unfit r
+    → checkedNumbers s ≡ formRefusal c x
+stage-refused c x {r = r} e f = rw (form-stages c x, sym e, f, refusing r)
+
+-- only `Fit` carries no refusal
+pub fit : (s : Checked) → checkedNumbers s ≡ accept → s ≡ Fit
+fit Fit e = refl
+fit (Unfit r) e = absurd (false≢true (sym (refusing r) ∙ ap passes e))
+
+-- ---- what a stage that lets pass says
+
+pub sizes-passed : (c : Column) (x : IndexColumn) → sizesRefusal c x ≡ accept → Sized c × (indexRefusal x ≡ accept)
+unfolding sizesRefusal indexRefusal
+sizes-passed c x e =
+    let f : Form = columnForm (kindAt c) (layoutAt c) c in
+    let g : Form = indexForm x in
+    let met = none-met (sizeLines (either f g)) (refl, (refl, (refl, tt))) e in
+    let k : (f .kind ≡ false) × (g .kind ≡ false) = or-false (f .kind) (g .kind) (met 0) in
+    let l : (f .limit ≡ false) × (g .limit ≡ false) = or-false (f .limit) (g .limit) (met 1) in
+    let s : (f .short ≡ false) × (g .short ≡ false) = or-false (f .short) (g .short) (met 2) in
+    (record { kind = k .0; limit = l .0; short = s .0 }, rw (k .1, l .1, s .1))
+
+-- the same, by what the first stage answers
+pub fit-sized : (c : Column) (x : IndexColumn) {s : Checked} → checkedNumbers s ≡ sizesRefusal c x → s ≡ Fit → Sized c
+fit-sized c x e f = sizes-passed c x (sym e ∙ ap checkedNumbers f) .0
+
+-- a column that passed both stages is well formed, and its index column passes by itself
+pub form-passed : (c : Column) (x : IndexColumn) → formRefusal c x ≡ accept → WellFormed c × (indexRefusal x ≡ accept)
+unfolding formRefusal columnRefusal indexRefusal
+form-passed c x e =
+    let f : Form = columnForm (kindAt c) (layoutAt c) c in
+    let g : Form = indexForm x in
+    let met = none-met (formLines (kindAt c) (layoutAt c) c x) (refl, (refl, (refl, (refl, tt)))) e in
+    let k : (f .kind ≡ false) × (g .kind ≡ false) = or-false (f .kind) (g .kind) (met 0) in
+    let l : (f .limit ≡ false) × (g .limit ≡ false) = or-false (f .limit) (g .limit) (met 1) in
+    let s : (f .short ≡ false) × (g .short ≡ false) = or-false (f .short) (g .short) (met 2) in
+    (rw (k .0, l .0, s .0, met 3), rw (k .1, l .1, s .1))
+
+-- ---- a column by itself
+
+-- the index column of no indices
+abbrev pub noIndices : IndexColumn
+noIndices = record { indices = record { width = 1; count = 0; «validity_bit» = 0 }; values = []; validity = [] }
+
+or-none : (a : Bool) → (a || false) ≡ a
+or-none true = refl
+or-none false = refl
+
+pub form-alone : (c : Column) → formRefusal c noIndices ≡ columnRefusal c
+unfolding formRefusal columnRefusal
+form-alone c =
+    let f : Form = columnForm (kindAt c) (layoutAt c) c in
+    rw (or-none (f .kind), or-none (f .limit), or-none (f .short))

@@ -3,3 +3,4 @@ pub mod table; // table.rt: a table's and an index column's description, kinds a
 pub mod refusal; // refusal.rt: what a stage answers
 pub mod sizes; // sizes.rt: refusals 1 to 3, of a column with an index column
 pub mod runs; // runs.rt: refusal 4, the offsets of a column of runs
+pub mod check; // check.rt: refusals 1 to 4
