@@ -3,15 +3,19 @@ use mathlib.Core.Path.{_≡_, refl, sym, ap, _∙_}
 use mathlib.Core.Bool.{Bool, true, false, cond, _&&_}
 use mathlib.Core.List.{List, [], _∷_, _++_}
 use Prim.Native.Nat.{ℕ, zero, suc, _+_, _-_, _*_, _/_, _%_, _^_, _≤_, _<_}
-use native.Mathlib.Nat.{not-suc-le-zero, le-of-suc-le-suc, mul-assoc, add-zero, add-comm, mul-le-mul-right, pow-suc, pow-succ', two-pow-succ, div-div-eq-div-mul}
+use native.Mathlib.Nat.{not-suc-le-zero, le-of-suc-le-suc, mul-assoc, add-zero, mul-le-mul-right, pow-suc, pow-succ', two-pow-succ, div-div-eq-div-mul}
+use native.Mathlib.Numerals.{add-one}
 use native.Mathlib.Omega.{arith}
 use lib.Bits.{bitAnd, and-mask}
 use lib.Dec.{eqb, leb, ltb}
-use lib.ListN.{length, getD, List·getD-append}
+use lib.ListN.{length, getD, take, set, List·getD-append}
+use lib.Seq.{getD-take}
 use borrow.Author.Tests.{lt-ltb, le-ltb, le-leb, ltb-true, eq-eqb, ne-eqb}
-use Rattle.bits.specs.Sequences.{concat, sum}
+use Rattle.bits.specs.Sequences.{sum}
+use Rattle.bits.specs.Bytes.{overwrite}
 use Rattle.bits.specs.Bits.{bitValue, bitAt, bytesFor, byteOf, packBytes, pack, replaceBits, setBits, validAt}
-use Rattle.bits.proofs.Sequences.{concat-cong, sum-cong, sum-mul, sum-const, sum-add, sum-zero, sum-head, length-tabulate, getD-tabulate}
+use Rattle.bits.proofs.Sequences.{concat-cong, concat-add, sum-cong, sum-mul, sum-add, sum-zero, sum-head, length-tabulate, getD-tabulate}
+use Rattle.bits.proofs.Bytes.{overwrite-set-at}
 
 pub bitValue-lt : (b : Bool) → bitValue b < 2
 bitValue-lt true = omega arith
@@ -101,9 +105,13 @@ bitAt-replaceBits s b n g i h l =
 
 -- ---- equal where the functions agree
 
+pub byteOf-cong : {f g : ℕ → Bool} → ((j : ℕ) → j < 8 → f j ≡ g j) → byteOf f ≡ byteOf g
+unfolding byteOf
+byteOf-cong h = sum-cong 8 (λ j l. ap (λ (t : Bool). bitValue t * 2 ^ j) (h j l))
+
 pub packBytes-cong : (n : ℕ) {f g : ℕ → Bool} → ((p : ℕ) → p < 8 * n → f p ≡ g p) → packBytes n f ≡ packBytes n g
-unfolding packBytes byteOf
-packBytes-cong n h = concat-cong n (λ k b. ap (λ (m : ℕ). m ∷ []) (sum-cong 8 (λ j l. ap (λ (t : Bool). bitValue t * 2 ^ j) (h (8 * k + j) (omega arith)))))
+unfolding packBytes
+packBytes-cong n h = concat-cong n (λ k b. ap (λ (m : ℕ). m ∷ []) (byteOf-cong (λ j l. h (8 * k + j) (omega arith))))
 
 pub pack-cong : (n : ℕ) {f g : ℕ → Bool} → ((p : ℕ) → p < n → f p ≡ g p) → pack n f ≡ pack n g
 unfolding pack
@@ -113,18 +121,69 @@ pack-cong n {f} {g} h = packBytes-cong (bytesFor n) (λ p b. go p (ltb p n) refl
     go p true e = h p (ltb-true p n e)
     go p false e = refl
 
--- ---- set bits
+-- buffers that agree on their first m bytes have the same bits in them
+pub bitAt-cong : (m : ℕ) (a b : List ℕ) (p : ℕ) → take m a ≡ take m b → p < 8 * m → bitAt a p ≡ bitAt b p
+unfolding bitAt
+bitAt-cong m a b p e h =
+    let l : p / 8 < m = omega arith in
+    let d : getD a (p / 8) 0 ≡ getD b (p / 8) 0 = sym (getD-take m a (p / 8) 0 l) ∙ ap (λ (t : List ℕ). getD t (p / 8) 0) e ∙ getD-take m b (p / 8) 0 l in
+    rw d
 
-weights-lt : (n : ℕ) (g : ℕ → Bool) → sum n (λ j. bitValue (g j) * 2 ^ j) < 2 ^ n
-weights-lt zero g = omega arith
-weights-lt (suc n) g =
-    let h : bitValue (g n) * 2 ^ n ≤ 1 * 2 ^ n = mul-le-mul-right (2 ^ n) (omega (arith, bitValue-lt (g n))) in
-    omega (arith, weights-lt n g, two-pow-succ n)
+-- ---- steps of loops that pack
+
+-- the bits g 0, .., g (j - 1), as a loop that packs a byte has added them up
+abbrev pub bitsTo : ℕ → (ℕ → Bool) → ℕ
+bitsTo j g = sum j (λ i. bitValue (g i) * 2 ^ i)
+
+pub bitsTo-step : (j : ℕ) (g : ℕ → Bool) → bitsTo (j + 1) g ≡ bitsTo j g + bitValue (g j) * 2 ^ j
+bitsTo-step j g = rw add-one
+
+pub bitsTo-lt : (j : ℕ) (g : ℕ → Bool) → bitsTo j g < 2 ^ j
+bitsTo-lt zero g = omega arith
+bitsTo-lt (suc j) g =
+    let h : bitValue (g j) * 2 ^ j ≤ 1 * 2 ^ j = mul-le-mul-right (2 ^ j) (omega (arith, bitValue-lt (g j))) in
+    omega (arith, bitsTo-lt j g, two-pow-succ j)
+
+-- a loop that stops at bit m leaves the bits from there on 0
+pub bitsTo-byteOf : (m : ℕ) (g : ℕ → Bool) → m ≤ 8 → bitsTo m g ≡ byteOf (λ j. ltb j m && g j)
+unfolding byteOf
+bitsTo-byteOf m g h =
+    let f : ℕ → ℕ = λ j. bitValue (ltb j m && g j) * 2 ^ j in
+    let r : ℕ = 8 - m in
+    let e : 8 ≡ m + r = omega arith in
+    let spare : sum r (λ j. f (m + j)) ≡ 0 = sum-zero r (λ j. f (m + j)) (λ j l. rw (le-ltb (m + j) m (omega arith)) (omega arith)) in
+    sym
+    (ap (λ (n : ℕ). sum n f) e
+    ∙ sum-add m r f
+    ∙ ap (λ (n : ℕ). sum m f + n) spare
+    ∙ add-zero (sum m f)
+    ∙ sum-cong m (λ j l. rw (lt-ltb j m l)))
 
 -- a packed byte is a byte
 pub byteOf-lt : (g : ℕ → Bool) → byteOf g < 256
 unfolding byteOf
-byteOf-lt g = weights-lt 8 g
+byteOf-lt g = bitsTo-lt 8 g
+
+-- more bytes
+pub packBytes-add : (k m : ℕ) (g : ℕ → Bool) → packBytes (k + m) g ≡ packBytes k g ++ packBytes m (λ p. g (8 * k + p))
+unfolding packBytes
+packBytes-add k m g =
+    concat-add k m (λ i. byteOf (λ j. g (8 * i + j)) ∷ [])
+    ∙ ap (λ (t : List ℕ). packBytes k g ++ t)
+    (concat-cong m (λ i l. ap (λ (b : ℕ). b ∷ []) (byteOf-cong (λ j h. ap g (omega arith)))))
+
+packBytes-one : (k : ℕ) (g : ℕ → Bool) → packBytes (k + 1) g ≡ packBytes k g ++ (byteOf (λ j. g (8 * k + j)) ∷ [])
+unfolding packBytes
+packBytes-one k g = rw add-one
+
+-- the store of a loop that packs a byte a turn
+pub packBytes-set : (k : ℕ) (g : ℕ → Bool) (s : List ℕ) → k < length s
+    → set (overwrite (packBytes k g) s) k (byteOf (λ j. g (8 * k + j))) ≡ overwrite (packBytes (k + 1) g) s
+packBytes-set k g s h =
+    overwrite-set-at (packBytes k g) s (byteOf (λ j. g (8 * k + j))) k (length-packBytes k g) h
+    ∙ ap (λ (t : List ℕ). overwrite t s) (sym (packBytes-one k g))
+
+-- ---- set bits
 
 -- bits before the end of a do not see b
 pub bitAt-append : (a b : List ℕ) (p : ℕ) → p < 8 * length a → bitAt (a ++ b) p ≡ bitAt a p

@@ -1,7 +1,7 @@
 -- Laws of parts and of overwritten buffers (specs/Bytes.antt), in the form that loops ask for. Assumes nothing.
 use mathlib.Core.Path.{_≡_, refl, sym, ap, _∙_, subst}
 use mathlib.Core.List.{List, [], _∷_, _++_, append-assoc}
-use Prim.Native.Nat.{ℕ, suc, _+_, _-_, _*_, _≤_, _<_}
+use Prim.Native.Nat.{ℕ, zero, suc, _+_, _-_, _*_, _≤_, _<_}
 use native.Mathlib.Nat.{mul-le-mul-right}
 use native.Mathlib.Numerals.{add-one}
 use native.Mathlib.Omega.{arith}
@@ -45,7 +45,7 @@ pub overwrite-set-at : (a s : List ℕ) (b n : ℕ) → length a ≡ n → n < l
 overwrite-set-at a s b n e h = subst (λ (k : ℕ). set (overwrite a s) k b ≡ overwrite (a ++ (b ∷ [])) s) e (overwrite-set a s b (omega arith))
 
 -- a call that writes b over the front of the tail at the running total n, after a has been written
-pub overwrite-tail : (a b s : List ℕ) (n : ℕ) → length a ≡ n → take n (overwrite a s) ++ overwrite b (drop n (overwrite a s)) ≡ overwrite (a ++ b) s
+pub overwrite-tail : (a b s : List ℕ) (n : ℕ) → length a ≡ n → overwriteAt n b (overwrite a s) ≡ overwrite (a ++ b) s
 overwrite-tail a b s n e =
     subst (λ (k : ℕ). take k (overwrite a s) ++ overwrite b (drop k (overwrite a s)) ≡ overwrite (a ++ b) s) e
     (rw (take-overwrite a s, drop-overwrite a s) (sym (overwrite-step a b s)))
@@ -55,12 +55,22 @@ overwrite-tail a b s n e =
 pub part-add : (p n m : ℕ) (s : List ℕ) → part p (n + m) s ≡ part p n s ++ part (p + n) m s
 part-add p n m s = take-add n m (drop p s) ∙ rw (drop-drop n p s)
 
+-- the first m bytes are enough for a part that ends there
+pub part-take : (p n m : ℕ) (s : List ℕ) → p + n ≤ m → part p n (take m s) ≡ part p n s
+part-take zero n m s h = take-take n m s (omega arith)
+part-take (suc p) n zero s h = absurd (omega arith)
+part-take (suc p) n (suc m) [] h = refl
+part-take (suc p) n (suc m) (b ∷ s) h = part-take p n m s (omega arith)
+
 -- ---- bytes written at a position
+
+pub overwriteAt-zero : (e s : List ℕ) → overwriteAt 0 e s ≡ overwrite e s
+overwriteAt-zero e s = refl
 
 pub length-overwriteAt : (p : ℕ) (e s : List ℕ) → p + length e ≤ length s → length (overwriteAt p e s) ≡ length s
 length-overwriteAt p e s h = simp (length-append, length-drop) (omega (arith, length-take-le p s (omega arith)))
 
--- a after that b: one after the other, or both at once
+-- a, and b right after it: one after the other, or both at once
 pub overwriteAt-append : (p : ℕ) (a b s : List ℕ) → p ≤ length s → overwriteAt (p + length a) b (overwriteAt p a s) ≡ overwriteAt p (a ++ b) s
 overwriteAt-append p a b s h =
     let t : List ℕ = take p s ++ a in

@@ -3,7 +3,7 @@ use mathlib.Core.Path.{_≡_, refl, sym, ap, _∙_}
 use mathlib.Core.Bool.{Bool, true, false, false≢true}
 use mathlib.Core.List.{List, [], _∷_, _++_}
 use Prim.Native.Nat.{ℕ, zero, suc, _+_, _*_, _/_, _%_, _^_, _≤_, _<_}
-use native.Mathlib.Nat.{add-zero, zero-add, suc-add, one-mul, mul-one, mul-assoc, mul-left-comm, pow-zero, pow-succ', div-one, div-div-eq-div-mul}
+use native.Mathlib.Nat.{zero-add, suc-add, one-mul, mul-one, mul-assoc, mul-left-comm, pow-zero, pow-succ', div-one, div-div-eq-div-mul}
 use native.Mathlib.Numerals.{add-one}
 use native.Mathlib.Omega.{arith}
 use lib.Dec.{eqb}
@@ -16,7 +16,7 @@ use Rattle.bits.specs.Sequences.{concat}
 use Rattle.bits.specs.Bytes.{part, overwriteAt}
 use Rattle.bits.specs.Numbers.{littleEndian, numberAt, toLittleEndian, isNumberWidth}
 use Rattle.bits.proofs.Sequences.{part-block}
-use Rattle.bits.proofs.Bytes.{part-add, length-part, stores-overwriteAt}
+use Rattle.bits.proofs.Bytes.{part-add, part-take, length-part, stores-overwriteAt}
 
 pub length-toLittleEndian : (w n : ℕ) → length (toLittleEndian w n) ≡ w
 length-toLittleEndian zero n = refl
@@ -56,6 +56,12 @@ number-step s p j h =
 -- one more byte in front: how a loop that goes down reads a number
 pub number-step-down : (s : List ℕ) (p n : ℕ) → p < length s → littleEndian (part p (suc n) s) ≡ getD s p 0 + 256 * littleEndian (part (suc p) n s)
 number-step-down s p n h = rw (drop-cons s p 0 h)
+
+-- buffers that agree on their first m bytes have the same numbers in them
+pub numberAt-cong : (w m : ℕ) (a b : List ℕ) (i : ℕ) → take m a ≡ take m b → i * w + w ≤ m → numberAt w a i ≡ numberAt w b i
+unfolding numberAt
+numberAt-cong w m a b i e h =
+    ap littleEndian (sym (part-take (i * w) w m a h) ∙ ap (part (i * w) w) e ∙ part-take (i * w) w m b h)
 
 -- ---- bytes
 

@@ -2,7 +2,7 @@
 use mathlib.Core.Path.{_≡_, refl, sym, _∙_, subst}
 use mathlib.Core.Logic.{_⊎_, inl, inr}
 use mathlib.Core.Bool.{Bool, true, false, cond, _||_, false≢true}
-use mathlib.Core.List.{List, [], _∷_, _++_}
+use mathlib.Core.List.{List, [], _∷_, _++_, append-assoc, append-nil}
 use Prim.Native.Nat.{ℕ, zero, suc, _+_, _-_, _*_, _≤_, _<_}
 use native.Mathlib.Nat.{add-zero, add-suc, add-assoc, mul-zero, not-suc-le-zero, le-of-suc-le-suc, eq-or-lt-of-le, add-mul, zero-mul, suc-mul, mul-one, le-refl, zero-lt-suc}
 use native.Mathlib.Omega.{arith}
@@ -44,6 +44,10 @@ first-cong (suc n) {p} {q} h =
     cc
 
 -- ---- lengths and sums
+
+pub concat-add : (n m : ℕ) (f : ℕ → List ℕ) → concat (n + m) f ≡ concat n f ++ concat m (λ j. f (n + j))
+concat-add n zero f = rw add-zero (sym (append-nil (concat n f)))
+concat-add n (suc m) f = rw (add-suc, concat-add n m f, append-assoc)
 
 pub length-concat : (n : ℕ) (f : ℕ → List ℕ) → length (concat n f) ≡ sum n (λ i. length (f i))
 length-concat zero f = refl
@@ -176,6 +180,16 @@ first-before (suc n) p i h = go (p zero) refl i h (first-before n (λ k. p (suc 
     go true e i h r = absurd (not-suc-le-zero h)
     go false e zero h r = e
     go false e (suc i) h r = r i (le-of-suc-le-suc h)
+
+-- the first that passes does
+pub first-passes : (n : ℕ) (p : ℕ → Bool) → first n p < n → p (first n p) ≡ true
+first-passes zero p h = absurd (not-suc-le-zero h)
+first-passes (suc n) p h = go (p zero) refl h (first-passes n (λ i. p (suc i)))
+  where
+    go : (b : Bool) → p zero ≡ b → cond b zero (suc (first n (λ i. p (suc i)))) < suc n → (first n (λ i. p (suc i)) < n → p (suc (first n (λ i. p (suc i)))) ≡ true)
+        → p (cond b zero (suc (first n (λ i. p (suc i))))) ≡ true
+    go true e h r = e
+    go false e h r = r (le-of-suc-le-suc h)
 
 -- none passes
 pub first-none : (n : ℕ) (p : ℕ → Bool) → ((i : ℕ) → i < n → p i ≡ false) → first n p ≡ n

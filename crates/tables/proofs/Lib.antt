@@ -3,5 +3,7 @@ pub mod Bounds
 pub mod Forms
 pub mod Facts
 pub mod Offsets
+pub mod Rows
+pub mod Needed
 pub mod Scans
 pub mod Stages

@@ -8,12 +8,14 @@ use lib.ListN.{length}
 use borrow.Author.Tests.{ltb-false, leb-false, lt-leb, eqb-true}
 use Rattle.bits.specs.Sequences.{sum, first}
 use Rattle.bits.specs.Numbers.{isNegative}
+use Rattle.tables.specs.declared.table.Kind.{Kind}
 use Rattle.tables.specs.declared.table.Layout.the-variants.{Runs}
 use Rattle.tables.specs.Kinds.{isOffsetWidth}
 use Rattle.tables.specs.Columns.{Column, offsetAt}
 use Rattle.tables.specs.Refusals.{maxBytes, isBadOffset, hasBadOffset}
-use Rattle.bits.proofs.Sequences.{first-before, first-none}
+use Rattle.bits.proofs.Sequences.{first-before, first-none, sum-mono}
 use Rattle.bits.proofs.Tests.{or-false}
+use Rattle.tables.proofs.Facts.{RunKind, Formed}
 
 -- an offset that a buffer can hold is neither too large nor below 0
 pub wide : (w : ℕ) → isOffsetWidth w ≡ true → (maxBytes < 2 ^ (8 * w - 1)) × (maxBytes < 256 ^ w)
@@ -41,6 +43,15 @@ no-bad-offset u c h =
     lt-leb (first (suc (c .table .rows)) (isBadOffset u c)) (c .table .rows)
     (rw (first-none (suc (c .table .rows)) (isBadOffset u c) (λ i b. h i (omega arith))) (omega arith))
 
+pub run-facts : (k : Kind) (u : ℕ) (c : Column) → RunKind (Runs u) c → Formed k (Runs u) c → RunFacts u c
+run-facts k u c rk f = record {
+  unit = rk .0;
+  width = rk .1;
+  small = f .values;
+  fits = ltb-false (length (c .offsets)) (suc (c .table .rows) * c .table .«offset_width») (f .valuesFit);
+  good = good-offsets u c (f .goodOffsets);
+}
+
 module _ (u : ℕ) (c : Column) (r : RunFacts u c) where
   pub below : (i : ℕ) → i ≤ c .table .rows → offsetAt c i ≤ length (c .values) / u
   below i h = ltb-false (length (c .values) / u) (offsetAt c i) (or-false (isNegative (c .table .«offset_width») (offsetAt c i) || (not (eqb i 0) && ltb (offsetAt c i) (offsetAt c (i - 1)))) (ltb (length (c .values) / u) (offsetAt c i)) (r .good i h) .1)
@@ -57,3 +68,6 @@ module _ (u : ℕ) (c : Column) (r : RunFacts u c) where
   pub telescope : (i : ℕ) → i ≤ c .table .rows → sum i (λ k. offsetAt c (suc k) - offsetAt c k) + offsetAt c 0 ≡ offsetAt c i
   telescope zero h = omega arith
   telescope (suc i) h = omega (arith, telescope i (omega arith), rises i h)
+
+  pub offsets-mono : (i j : ℕ) → i ≤ j → j ≤ c .table .rows → offsetAt c i ≤ offsetAt c j
+  offsets-mono i j h l = omega (arith, telescope i (omega arith), telescope j l, sum-mono j (λ k. offsetAt c (suc k) - offsetAt c k) h)

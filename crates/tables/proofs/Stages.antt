@@ -1,5 +1,5 @@
 -- Refusals 1 to 4 as two stages, sizes and offsets: what a stage that lets pass says, and the answer of the two. Assumes nothing.
-use mathlib.Core.Path.{_≡_, refl, sym, ap, _∙_, subst}
+use mathlib.Core.Path.{_≡_, refl, sym, ap, _∙_}
 use mathlib.Core.Bool.{Bool, true, false, _||_, false≢true}
 use mathlib.Core.List.{[]}
 use Prim.Native.Nat.{ℕ, suc, _*_, _/_, _≤_, _<_}
@@ -18,9 +18,9 @@ use Rattle.tables.specs.declared.refusal.Checked.{Checked}
 use Rattle.tables.specs.declared.refusal.Checked.the-variants.{Fit, Unfit}
 use Rattle.tables.specs.Kinds.{kindOf, layoutOf}
 use Rattle.tables.specs.Columns.{Column, IndexColumn, kindAt, layoutAt, offsetAt}
-use Rattle.tables.specs.Answers.{refuse, accept, passes, _orElse_, refusalNumbers, checkedNumbers, firstOf}
-use Rattle.tables.specs.Refusals.{maxBytes, valuesShort, validityShort, isBadNumber, badOffset, hasBadOffset, Form, columnForm, indexForm, either, sizeLines, offsetLines, formLines, columnRefusal, indexRefusal, formRefusal, sizesRefusal, offsetsRefusal, WellFormed}
-use Rattle.tables.specs.Bounds.{RowFits, LayoutFits, Bounds, Offsets, Sized}
+use Rattle.tables.specs.Answers.{refuse, accept, passes, _orElse_, refusalNumbers, checkedNumbers}
+use Rattle.tables.specs.Refusals.{maxBytes, valuesShort, validityShort, isBadNumber, Form, columnForm, indexForm, either, sizeLines, offsetLines, columnRefusal, indexRefusal, formRefusal, sizesRefusal, offsetsRefusal}
+use Rattle.tables.specs.Bounds.{RowFits, Bounds, Offsets, Sized}
 use Rattle.bits.proofs.Tests.{or-false}
 use Rattle.tables.proofs.Lines.{firstOf-append, none-met}
 use Rattle.tables.proofs.Bounds.{limits, row-fits, bounds, fits-at}
@@ -134,18 +134,6 @@ sizes-passed c x e =
 -- the same, by what the first stage answers
 pub fit-sized : (c : Column) (x : IndexColumn) {s : Checked} → checkedNumbers s ≡ sizesRefusal c x → s ≡ Fit → Sized c
 fit-sized c x e f = sizes-passed c x (sym e ∙ ap checkedNumbers f) .0
-
--- a column that passed both stages is well formed, and its index column passes by itself
-pub form-passed : (c : Column) (x : IndexColumn) → formRefusal c x ≡ accept → WellFormed c × (indexRefusal x ≡ accept)
-unfolding formRefusal columnRefusal indexRefusal
-form-passed c x e =
-    let f : Form = columnForm (kindAt c) (layoutAt c) c in
-    let g : Form = indexForm x in
-    let met = none-met (formLines (kindAt c) (layoutAt c) c x) (refl, (refl, (refl, (refl, tt)))) e in
-    let k : (f .kind ≡ false) × (g .kind ≡ false) = or-false (f .kind) (g .kind) (met 0) in
-    let l : (f .limit ≡ false) × (g .limit ≡ false) = or-false (f .limit) (g .limit) (met 1) in
-    let s : (f .short ≡ false) × (g .short ≡ false) = or-false (f .short) (g .short) (met 2) in
-    (rw (k .0, l .0, s .0, met 3), rw (k .1, l .1, s .1))
 
 -- ---- a column by itself
 

@@ -4,3 +4,4 @@ pub mod Answers
 pub mod Refusals
 pub mod Bounds
 pub mod Rows
+pub mod Needed

@@ -1,0 +1,12 @@
+pub mod Stages
+pub mod Store
+pub mod Reach
+pub mod Replaced
+pub mod Runs
+pub mod Blanked
+pub mod Regular
+pub mod ReadBack
+pub mod Nulls
+pub mod Cases
+pub mod Trials
+pub mod Needed

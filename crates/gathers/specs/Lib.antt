@@ -1,0 +1,5 @@
+pub mod Taken
+pub mod Stored
+pub mod Gather
+pub mod Blank
+pub mod Trials
