@@ -19,10 +19,11 @@ use Rattle.tables.specs.declared.refusal.Checked.the-variants.{Fit, Unfi
 use Rattle.tables.specs.Kinds.{kindOf, layoutOf}
 use Rattle.tables.specs.Columns.{Column, IndexColumn, kindAt, layoutAt, offsetAt}
 use Rattle.tables.specs.Answers.{refuse, accept, passes, _orElse_, refusalNumbers, checkedNumbers}
-use Rattle.tables.specs.Refusals.{maxBytes, valuesShort, validityShort, isBadNumber, Form, columnForm, indexForm, either, sizeLines, offsetLines, columnRefusal, indexRefusal, formRefusal, sizesRefusal, offsetsRefusal}
+use Rattle.tables.specs.Refusals.{maxBytes, valuesShort, validityShort, isBadNumber, Form, columnForm, indexForm, either, sizeLines, offsetLines, columnLines, columnRefusal, indexRefusal, formRefusal, sizesRefusal, offsetsRefusal, WellFormed}
 use Rattle.tables.specs.Bounds.{RowFits, Bounds, Offsets, Sized}
 use Rattle.bits.proofs.Tests.{or-false}
 use Rattle.tables.proofs.Lines.{firstOf-append, none-met}
+use Rattle.tables.proofs.Facts.{form-passed, IndexFormed, index-formed}
 use Rattle.tables.proofs.Bounds.{limits, row-fits, bounds, fits-at}
 
 -- ---- a column that passed refusals 1 to 3
@@ -134,6 +135,18 @@ sizes-passed c x e =
 -- the same, by what the first stage answers
 pub fit-sized : (c : Column) (x : IndexColumn) {s : Checked} → checkedNumbers s ≡ sizesRefusal c x → s ≡ Fit → Sized c
 fit-sized c x e f = sizes-passed c x (sym e ∙ ap checkedNumbers f) .0
+
+-- both stages let pass: the column is well-formed, and the index column passes by itself
+pub fit-formed : (c : Column) (x : IndexColumn) {s : Checked} → checkedNumbers s ≡ formRefusal c x → s ≡ Fit → WellFormed c × IndexFormed x
+fit-formed c x e f =
+    let p = form-passed c x (ap passes (sym e ∙ ap checkedNumbers f)) in
+    (p .0, index-formed x (p .1))
+
+pub well-formed-sized : (c : Column) → WellFormed c → Sized c
+unfolding columnRefusal
+well-formed-sized c e =
+    let met = none-met (columnLines (kindAt c) (layoutAt c) c) (refl, (refl, (refl, (refl, tt)))) e in
+    record { kind = met 0; limit = met 1; short = met 2 }
 
 -- ---- a column by itself
 

@@ -1,3 +1,4 @@
+-- `tables::sizes::bad_kind` meets its contract: each arm by the kind that led to it. Assumes nothing.
 use borrow.Author.Needs.{needs}
 use Rattle.tables.proofs.sizes.bad_kind.Statement.{statement}
 use Rattle.tables.proofs.sizes.bad_kind.Tie as tie

@@ -1,3 +1,4 @@
+-- `tables::sizes::index_over_limit` meets its contract: its tests are those of the definition, in their order. Assumes nothing.
 use borrow.Author.Needs.{needs}
 use Rattle.tables.proofs.sizes.index_over_limit.Statement.{statement}
 use Rattle.tables.proofs.sizes.index_over_limit.Tie as tie

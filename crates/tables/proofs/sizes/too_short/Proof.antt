@@ -1,3 +1,4 @@
+-- `tables::sizes::too_short` meets its contract: its tests are those of the definition, in their order. Assumes nothing.
 use borrow.Author.Needs.{needs}
 use Rattle.tables.proofs.sizes.too_short.Statement.{statement}
 use Rattle.tables.proofs.sizes.too_short.Tie as tie

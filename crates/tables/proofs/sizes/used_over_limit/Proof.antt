@@ -1,3 +1,4 @@
+-- `tables::sizes::used_over_limit` meets its contract: each arm by the kind that led to it. Assumes nothing.
 use borrow.Author.Needs.{needs}
 use Rattle.tables.proofs.sizes.used_over_limit.Statement.{statement}
 use Rattle.tables.proofs.sizes.used_over_limit.Tie as tie
