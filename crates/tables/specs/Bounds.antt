@@ -12,11 +12,11 @@ use Rattle.tables.specs.declared.table.Table.{Table}
 use Rattle.tables.specs.declared.table.Indices.{Indices}
 use Rattle.tables.specs.Kinds.{isOffsetWidth, isIndexWidth}
 use Rattle.tables.specs.Columns.{Column, kindAt, layoutAt}
-use Rattle.tables.specs.Refusals.{maxRows, maxBit, columnForm}
+use Rattle.tables.specs.Refusals.{maxRows, maxSize, maxBit, columnForm}
 
--- the most bytes of a row of a block: 65,536 elements of 32 bytes
+-- of the bytes of a block: no width is above 32
 abbrev pub maxBlock : ℕ
-maxBlock = 2_097_152
+maxBlock = maxSize * 32
 
 -- the product of a row's size and width, where the kind multiplies them
 abbrev pub RowFits : Kind → Table → Type 0

@@ -13,11 +13,11 @@ use crate::table::kind_of;
 use crate::table::layout_of;
 ghost use mathlib.Core.Path.{_≡_};
 ghost use mathlib.Core.Bool.{false};
-ghost use Prim.Native.Nat.{_≤_};
+ghost use Prim.Native.Nat.{_+_, _≤_};
 ghost use Rattle.bits.specs.Bits.{bytesFor};
 ghost use Rattle.tables.specs.Columns.{columnAt, indexColumnAt};
 ghost use Rattle.tables.specs.Answers.{checkedNumbers};
-ghost use Rattle.tables.specs.Refusals.{maxRows, badKind, usedOverLimit, validityOverLimit, overLimit, valuesShort, validityShort, tooShort, indexOverLimit, indexTooShort, sizesRefusal};
+ghost use Rattle.tables.specs.Refusals.{maxRows, maxBit, badKind, usedOverLimit, validityOverLimit, overLimit, valuesShort, validityShort, tooShort, indexOverLimit, indexTooShort, sizesRefusal};
 ghost use Rattle.tables.specs.Bounds.{Bounds, IndexBounds};
 
 const MAX_ROWS: u64 = 1_048_576;
@@ -79,7 +79,7 @@ fn index_over_limit(x: Indices, values: u64, validity: u64) -> bool
 
 // The bytes that hold so many bits.
 fn bytes_for(bits: u64) -> u64
-    requires { ⌜ bits ≤ 2_000_000 ⌝ }
+    requires { ⌜ bits ≤ maxBit + maxRows ⌝ }
     ensures { λ r. ⌜ r ≡ bytesFor bits ⌝ }
 {
     (bits + 7) / 8
