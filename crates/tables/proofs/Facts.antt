@@ -1,7 +1,7 @@
 -- What the tests of a well-formed column say, taken apart once. Assumes nothing.
 use mathlib.Core.Path.{_≡_, refl}
-use mathlib.Core.Bool.{Bool, true, false, not, _||_, false≢true}
-use Prim.Native.Nat.{ℕ, zero, suc, _*_, _≤_, _<_}
+use mathlib.Core.Bool.{Bool, true, false}
+use Prim.Native.Nat.{_*_, _≤_, _<_}
 use native.Mathlib.Omega.{arith}
 use lib.Dec.{ltb}
 use lib.ListN.{length}
@@ -10,11 +10,12 @@ use Rattle.tables.specs.declared.table.Kind.{Kind}
 use Rattle.tables.specs.declared.table.Kind.the-variants.{Primitive, Boolean, VariableBytes, List as ListKind, FixedSizeList, FixedSizeBinary, Unknown}
 use Rattle.tables.specs.declared.table.Layout.{Layout}
 use Rattle.tables.specs.declared.table.Layout.the-variants.{Blocks, Bits, Runs}
-use Rattle.tables.specs.Kinds.{layoutOf, isWidth, isOffsetWidth, isIndexWidth}
+use Rattle.tables.specs.Kinds.{layoutOf, isOffsetWidth, isIndexWidth}
 use Rattle.tables.specs.Columns.{Column, IndexColumn, kindAt, layoutAt}
 use Rattle.tables.specs.Answers.{accept, passes, firstOf}
-use Rattle.tables.specs.Refusals.{maxRows, maxBytes, badKind, usedOverLimit, validityOverLimit, overLimit, valuesShort, validityShort, tooShort, hasBadOffset, Form, columnForm, indexForm, sizeLines, columnLines, formLines, columnRefusal, indexRefusal, formRefusal, WellFormed}
+use Rattle.tables.specs.Refusals.{maxRows, maxBytes, badKind, usedOverLimit, validityOverLimit, valuesShort, validityShort, hasBadOffset, Form, columnForm, indexForm, sizeLines, columnLines, formLines, columnRefusal, indexRefusal, formRefusal, WellFormed}
 use Rattle.bits.proofs.Tests.{or-false, false-or, not-false}
+use Rattle.tables.proofs.Bounds.{list-kind, limits, index-limits}
 use Rattle.tables.proofs.Lines.{none-met, none-met-passes}
 
 -- ---- what a layout asks of the kind
@@ -24,17 +25,11 @@ RunKind (Blocks n) c = Unit {0}
 RunKind Bits c = Unit {0}
 RunKind (Runs u) c = (0 < u) × (isOffsetWidth (c .table .«offset_width») ≡ true)
 
-width-pos : (w : ℕ) → isWidth w ≡ true → 0 < w
-width-pos zero e = absurd (false≢true e)
-width-pos (suc w) e = omega arith
-
 pub run-kind : (k : Kind) (c : Column) → badKind k (c .table) ≡ false → RunKind (layoutOf k (c .table .width) (c .table .size)) c
 run-kind Primitive c e = tt
 run-kind Boolean c e = tt
 run-kind VariableBytes c e = (omega arith, not-false (isOffsetWidth (c .table .«offset_width»)) e)
-run-kind ListKind c e =
-    let p : (not (isWidth (c .table .width)) ≡ false) × (not (isOffsetWidth (c .table .«offset_width»)) ≡ false) = or-false (not (isWidth (c .table .width))) (not (isOffsetWidth (c .table .«offset_width»))) e in
-    (width-pos (c .table .width) (not-false (isWidth (c .table .width)) (p .0)), not-false (isOffsetWidth (c .table .«offset_width»)) (p .1))
+run-kind ListKind c e = list-kind (c .table) e
 run-kind FixedSizeList c e = tt
 run-kind FixedSizeBinary c e = tt
 run-kind Unknown c e = tt
@@ -55,22 +50,16 @@ pub record Formed (k : Kind) (l : Layout) (c : Column) : Type 0 where
 pub formed-by : (k : Kind) (l : Layout) (c : Column) → columnForm k l c .kind ≡ false → columnForm k l c .limit ≡ false → columnForm k l c .short ≡ false
     → hasBadOffset l c ≡ false → Formed k l c
 formed-by k l c g h m o =
-    let A : Bool = ltb maxRows (c .table .rows) in
-    let B : Bool = ltb maxBytes (length (c .values)) in
-    let C : Bool = validityOverLimit (length (c .validity)) (c .table .«validity_bit») in
-    let N : Bool = usedOverLimit k (c .table) (length (c .offsets)) in
+    let n = limits k (c .table) (length (c .values)) (length (c .offsets)) (length (c .validity)) h in
     let S : Bool = valuesShort l (c .table) (length (c .values)) (length (c .offsets)) in
     let W : Bool = validityShort (length (c .validity)) (c .table .«validity_bit») (c .table .rows) in
-    let p : ((A || B || C) ≡ false) × (N ≡ false) = or-false (A || B || C) N h in
-    let q : ((A || B) ≡ false) × (C ≡ false) = or-false (A || B) C (p .0) in
-    let r : (A ≡ false) × (B ≡ false) = or-false A B (q .0) in
     let s : (S ≡ false) × (W ≡ false) = or-false S W m in
     record {
       goodKind = g;
-      rows = ltb-false maxRows (c .table .rows) (r .0);
-      values = ltb-false maxBytes (length (c .values)) (r .1);
-      validityLimit = q .1;
-      number = p .1;
+      rows = n .rows;
+      values = n .bytes;
+      validityLimit = n .bits;
+      number = n .used;
       valuesFit = s .0;
       validityFits = s .1;
       goodOffsets = o;
@@ -136,19 +125,15 @@ pub index-formed : (x : IndexColumn) → passes (indexRefusal x) ≡ true → In
 unfolding indexRefusal
 index-formed x e =
     let met = none-met-passes (sizeLines (indexForm x)) (refl, (refl, (refl, tt))) e in
-    let A : Bool = ltb maxRows (x .indices .count) in
-    let B : Bool = ltb maxBytes (length (x .values)) in
-    let C : Bool = validityOverLimit (length (x .validity)) (x .indices .«validity_bit») in
-    let p : ((A || B) ≡ false) × (C ≡ false) = or-false (A || B) C (met 1) in
-    let q : (A ≡ false) × (B ≡ false) = or-false A B (p .0) in
+    let n = index-limits (x .indices) (length (x .values)) (length (x .validity)) (met 1) in
     let S : Bool = ltb (length (x .values)) (x .indices .count * x .indices .width) in
     let W : Bool = validityShort (length (x .validity)) (x .indices .«validity_bit») (x .indices .count) in
     let s : (S ≡ false) × (W ≡ false) = or-false S W (met 2) in
     record {
       width = not-false (isIndexWidth (x .indices .width)) (met 0);
-      count = ltb-false maxRows (x .indices .count) (q .0);
-      values = ltb-false maxBytes (length (x .values)) (q .1);
-      validityLimit = p .1;
+      count = n .count;
+      values = n .bytes;
+      validityLimit = n .bits;
       valuesFit = ltb-false (length (x .values)) (x .indices .count * x .indices .width) (s .0);
       validityFits = s .1;
     }

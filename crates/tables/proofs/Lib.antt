@@ -1,7 +1,11 @@
 pub mod Lines
+pub mod Bounds
+pub mod Forms
 pub mod Facts
 pub mod Offsets
+pub mod Views
 pub mod Rows
 pub mod Needed
-pub mod Views
 pub mod Used
+pub mod Scans
+pub mod Stages

@@ -6,7 +6,7 @@ use mathlib.Core.List.{List, [], _∷_, _++_}
 use lib.Dec.{eqb, leb, ltb}
 use lib.ListN.{length}
 use Rattle.bits.specs.Sequences.{first}
-use Rattle.bits.specs.Numbers.{isNegative}
+use Rattle.bits.specs.Numbers.{numberAt, isNegative}
 use Rattle.bits.specs.Bits.{bytesFor}
 use Rattle.tables.specs.declared.table.Kind.{Kind}
 use Rattle.tables.specs.declared.table.Kind.the-variants.{Primitive, Boolean, VariableBytes, List as ListKind, FixedSizeList, FixedSizeBinary, Unknown}
@@ -82,6 +82,14 @@ validityShort bytes b n = not (eqb bytes 0) && ltb bytes (bytesFor (b + n))
 abbrev pub tooShort : Layout → Table → ℕ → ℕ → ℕ → Bool
 tooShort l t values offsets validity = valuesShort l t values offsets || validityShort validity (t .«validity_bit») (t .rows)
 
+-- ---- 2 and 3 of an index column
+
+abbrev pub indexOverLimit : Indices → ℕ → ℕ → Bool
+indexOverLimit x values validity = ltb maxRows (x .count) || ltb maxBytes values || validityOverLimit validity (x .«validity_bit»)
+
+abbrev pub indexTooShort : Indices → ℕ → ℕ → Bool
+indexTooShort x values validity = ltb values (x .count * x .width) || validityShort validity (x .«validity_bit») (x .count)
+
 -- ---- 4: offset i is below 0, below the one before, or above H, the number of entries of u bytes in the data
 
 abbrev pub isBadOffset : ℕ → Column → ℕ → Bool
@@ -89,6 +97,11 @@ isBadOffset u c i =
     isNegative (c .table .«offset_width») (offsetAt c i)
     || (not (eqb i 0) && ltb (offsetAt c i) (offsetAt c (i - 1)))
     || ltb (length (c .values) / u) (offsetAt c i)
+
+-- the same of offset i of the offsets s, of w bytes each, where H is known
+abbrev pub isBadNumber : ℕ → List ℕ → ℕ → ℕ → Bool
+isBadNumber w s most i =
+    isNegative w (numberAt w s i) || (not (eqb i 0) && ltb (numberAt w s i) (numberAt w s (i - 1))) || ltb most (numberAt w s i)
 
 -- the first such offset; rows + 1 where there is none
 abbrev pub badOffset : Layout → Column → ℕ
@@ -117,8 +130,8 @@ columnForm k l c = record {
 abbrev pub indexForm : IndexColumn → Form
 indexForm x = record {
   kind = not (isIndexWidth (x .indices .width));
-  limit = ltb maxRows (x .indices .count) || ltb maxBytes (length (x .values)) || validityOverLimit (length (x .validity)) (x .indices .«validity_bit»);
-  short = ltb (length (x .values)) (x .indices .count * x .indices .width) || validityShort (length (x .validity)) (x .indices .«validity_bit») (x .indices .count);
+  limit = indexOverLimit (x .indices) (length (x .values)) (length (x .validity));
+  short = indexTooShort (x .indices) (length (x .values)) (length (x .validity));
 }
 
 -- a test of two is met where one of them meets it

@@ -1,0 +1,101 @@
+// Refusal 4: the offsets of a column of runs. One pass, without a branch, finds whether some offset is below the one before. Where none
+// is and the last is at most H, all are good: an offset below 0 is, read as unsigned, above every H. Only else is the place looked for.
+use crate::refusal::Checked;
+use crate::refusal::Refusal;
+use crate::table::Layout;
+use crate::table::Table;
+use crate::table::kind_of;
+use crate::table::layout_of;
+use bits::number::number_at;
+ghost use mathlib.Core.Path.{_≡_};
+ghost use Prim.Native.Nat.{suc, _≤_};
+ghost use lib.Dec.{ltb};
+ghost use Rattle.bits.specs.Sequences.{any, first};
+ghost use Rattle.bits.specs.Numbers.{numberAt};
+ghost use Rattle.tables.specs.Columns.{columnAt};
+ghost use Rattle.tables.specs.Answers.{checkedNumbers};
+ghost use Rattle.tables.specs.Refusals.{maxBytes, isBadNumber, offsetsRefusal};
+ghost use Rattle.tables.specs.Bounds.{Offsets, Sized};
+
+// Some offset is below the one before.
+fn falls_by(offsets: &[u8], w: usize, rows: usize) -> bool
+    requires { ⌜ Offsets w rows (now offsets) ⌝ }
+    ensures { λ r. ⌜ r ≡ any rows (λ k. ltb (numberAt w (now (offsets .entry)) (suc k)) (numberAt w (now (offsets .entry)) k)) ⌝ }
+{
+    let mut bad = false;
+    let mut i = 0;
+    while i < rows {
+        let before = number_at(offsets, w, i);
+        i += 1;
+        bad = bad | (number_at(offsets, w, i) < before);
+    }
+    bad
+}
+
+// The same. The literal widths have the loop compiled for each.
+fn falls(offsets: &[u8], w: usize, rows: usize) -> bool
+    requires { ⌜ Offsets w rows (now offsets) ⌝ }
+    ensures { λ r. ⌜ r ≡ any rows (λ k. ltb (numberAt w (now (offsets .entry)) (suc k)) (numberAt w (now (offsets .entry)) k)) ⌝ }
+{
+    if w == 4 {
+        return falls_by(offsets, 4, rows);
+    }
+    falls_by(offsets, 8, rows)
+}
+
+// The place of the first bad offset, by looking at each; `rows` + 1 where all are good.
+fn find_bad(offsets: &[u8], w: usize, rows: usize, most: u64) -> u64
+    requires { ⌜ Offsets w rows (now offsets) ⌝ }
+    requires { ⌜ most ≤ maxBytes ⌝ }
+    ensures { λ r. ⌜ r ≡ first (suc rows) (isBadNumber w (now (offsets .entry)) most) ⌝ }
+{
+    let mut before: u64 = 0;
+    let mut i: usize = 0;
+    while i <= rows {
+        let offset = number_at(offsets, w, i);
+        if (offset < before) | (offset > most) {
+            return i as u64;
+        }
+        before = offset;
+        i += 1;
+    }
+    i as u64
+}
+
+// The same, by the pass that finds all offsets good.
+fn bad_offset(offsets: &[u8], w: usize, rows: usize, most: u64) -> u64
+    requires { ⌜ Offsets w rows (now offsets) ⌝ }
+    requires { ⌜ most ≤ maxBytes ⌝ }
+    ensures { λ r. ⌜ r ≡ first (suc rows) (isBadNumber w (now (offsets .entry)) most) ⌝ }
+{
+    if falls(offsets, w, rows) | (number_at(offsets, w, rows) > most) {
+        return find_bad(offsets, w, rows, most);
+    }
+    rows as u64 + 1
+}
+
+// Refusal 4 of a column that passed refusals 1 to 3. A column without offsets passes at once.
+pub fn check_offsets(table: Table, data: &[u8], offsets: &[u8], validity: &[u8]) -> Checked
+    requires { ⌜ Sized (columnAt table «data» offsets validity) ⌝ }
+    ensures { λ r. ⌜ checkedNumbers r ≡ offsetsRefusal (columnAt table («data» .entry) (offsets .entry) (validity .entry)) ⌝ }
+{
+    let kind = kind_of(table.kind);
+    let layout = layout_of(kind, table);
+    match layout {
+        Layout::Blocks(_) => Checked::Fit,
+        Layout::Bits => Checked::Fit,
+        Layout::Runs(unit) => {
+            let most = data.len() as u64 / unit;
+            let place = bad_offset(
+                offsets,
+                table.offset_width as usize,
+                table.rows as usize,
+                most,
+            );
+            if place <= table.rows {
+                return Checked::Unfit(Refusal::Offsets { place });
+            }
+            Checked::Fit
+        }
+    }
+}
