@@ -12,7 +12,7 @@ use borrow.Author.Tests.{ltb-false, le-ltb, lt-leb}
 use Rattle.bits.specs.Sequences.{any, first}
 use Rattle.bits.specs.Numbers.{numberAt, isNegative, isNumberWidth}
 use Rattle.tables.specs.Kinds.{isOffsetWidth}
-use Rattle.tables.specs.Refusals.{maxBytes, isBadNumber}
+use Rattle.tables.specs.Refusals.{maxBytes, isBad}
 use Rattle.tables.specs.Bounds.{Offsets}
 use Rattle.bits.proofs.Tests.{or-false}
 use Rattle.bits.proofs.Sequences.{below-suc, first-none}
@@ -63,7 +63,7 @@ or-true false = refl
 
 -- below 0 is above H: two tests tell a bad offset
 pub bad-number : (w : ℕ) (s : List ℕ) (most i : ℕ) → isOffsetWidth w ≡ true → most ≤ maxBytes
-    → isBadNumber w s most i ≡ (ltb (numberAt w s i) (floor w s i) || ltb most (numberAt w s i))
+    → isBad w (numberAt w s) most i ≡ (ltb (numberAt w s i) (floor w s i) || ltb most (numberAt w s i))
 bad-number w s most i e h = rw (floor-test w s i) (go (numberAt w s i) (ltb most (numberAt w s i)) refl)
   where
     go : (n : ℕ) (t : Bool) → ltb most n ≡ t → (isNegative w n || ltb n (floor w s i) || t) ≡ (ltb n (floor w s i) || t)
@@ -72,12 +72,12 @@ bad-number w s most i e h = rw (floor-test w s i) (go (numberAt w s i) (ltb most
 
 -- no offset falls, and the last is at most H: none is bad
 pub all-good : (w : ℕ) (s : List ℕ) (most rows : ℕ) → isOffsetWidth w ≡ true → most ≤ maxBytes → any rows (fallsAfter w s) ≡ false
-    → numberAt w s rows ≤ most → first (suc rows) (isBadNumber w s most) ≡ suc rows
+    → numberAt w s rows ≤ most → first (suc rows) (isBad w (numberAt w s) most) ≡ suc rows
 all-good w s most rows e h a l =
     let rises : (k : ℕ) → k < rows → numberAt w s k ≤ numberAt w s (suc k) =
     λ k b. ltb-false (numberAt w s (suc k)) (numberAt w s k) (any-none rows (fallsAfter w s) a k b) in
-    let good : (i : ℕ) → i < suc rows → isBadNumber w s most i ≡ false = λ i b. bad-number w s most i e h ∙ good-test rises i b in
-    first-none (suc rows) (isBadNumber w s most) good
+    let good : (i : ℕ) → i < suc rows → isBad w (numberAt w s) most i ≡ false = λ i b. bad-number w s most i e h ∙ good-test rises i b in
+    first-none (suc rows) (isBad w (numberAt w s) most) good
   where
     over : ((k : ℕ) → k < rows → numberAt w s k ≤ numberAt w s (suc k)) → (i : ℕ) → i < suc rows → ltb most (numberAt w s i) ≡ false
     over rises i b = le-ltb most (numberAt w s i) (omega (arith, climb rows (numberAt w s) rises i b))
@@ -96,7 +96,7 @@ falls-next w s i e d f = rw (e, d, f, add-one i)
 
 -- the test of an offset that is looked at
 pub bad-test : (w : ℕ) (s : List ℕ) (most i : ℕ) {before offset : ℕ} {t : Bool} → isOffsetWidth w ≡ true → most ≤ maxBytes → before ≡ floor w s i
-    → offset ≡ numberAt w s i → (ltb offset before || ltb most offset) ≡ t → isBadNumber w s most i ≡ t
+    → offset ≡ numberAt w s i → (ltb offset before || ltb most offset) ≡ t → isBad w (numberAt w s) most i ≡ t
 bad-test w s most i e h d f g = bad-number w s most i e h ∙ rw (sym d, sym f) g
 
 pub floor-next : (w : ℕ) (s : List ℕ) (i : ℕ) → floor w s (i + 1) ≡ numberAt w s i

@@ -19,7 +19,8 @@ use Rattle.tables.specs.declared.refusal.Checked.the-variants.{Fit, Unfi
 use Rattle.tables.specs.Kinds.{kindOf, layoutOf}
 use Rattle.tables.specs.Columns.{Column, IndexColumn, kindAt, layoutAt, offsetAt}
 use Rattle.tables.specs.Answers.{refuse, accept, passes, _orElse_, refusalNumbers, checkedNumbers}
-use Rattle.tables.specs.Refusals.{maxBytes, valuesShort, validityShort, isBadNumber, Form, columnForm, indexForm, either, sizeLines, offsetLines, columnLines, columnRefusal, indexRefusal, formRefusal, sizesRefusal, offsetsRefusal, WellFormed}
+use Rattle.bits.specs.Numbers.{numberAt}
+use Rattle.tables.specs.Refusals.{maxBytes, valuesShort, validityShort, isBad, Form, columnForm, indexForm, either, sizeLines, offsetLines, columnLines, columnRefusal, indexRefusal, formRefusal, sizesRefusal, offsetsRefusal, WellFormed}
 use Rattle.tables.specs.Bounds.{RowFits, Bounds, Offsets, Sized}
 use Rattle.bits.proofs.Tests.{or-false}
 use Rattle.tables.proofs.Lines.{firstOf-append, none-met}
@@ -79,7 +80,7 @@ module _ (c : Column) where
   offsets-of-bits e = rw (e, lt-leb (suc (c .table .rows)) (c .table .rows) (omega arith))
 
   module _ (u : ℕ) {place : ℕ} (e : layoutAt c ≡ Runs u)
-      (d : place ≡ first (suc (c .table .rows)) (isBadNumber (c .table .«offset_width») (c .offsets) (length (c .values) / u))) where
+      (d : place ≡ first (suc (c .table .rows)) (isBad (c .table .«offset_width») (numberAt (c .table .«offset_width») (c .offsets)) (length (c .values) / u))) where
     pub offsets-refused : place ≤ c .table .rows → refuse 4 place 0 ≡ offsetsRefusal c
     unfolding offsetsRefusal offsetAt
     offsets-refused h = rw (e, sym d, le-leb place (c .table .rows) h)

@@ -14,7 +14,7 @@ ghost use Rattle.bits.specs.Sequences.{any, first};
 ghost use Rattle.bits.specs.Numbers.{numberAt};
 ghost use Rattle.tables.specs.Columns.{columnAt};
 ghost use Rattle.tables.specs.Answers.{checkedNumbers};
-ghost use Rattle.tables.specs.Refusals.{maxBytes, isBadNumber, offsetsRefusal};
+ghost use Rattle.tables.specs.Refusals.{maxBytes, isBad, offsetsRefusal};
 ghost use Rattle.tables.specs.Bounds.{Offsets, Sized};
 
 // Some offset is below the one before.
@@ -47,7 +47,7 @@ fn falls(offsets: &[u8], w: usize, rows: usize) -> bool
 fn find_bad(offsets: &[u8], w: usize, rows: usize, most: u64) -> u64
     requires { ⌜ Offsets w rows (now offsets) ⌝ }
     requires { ⌜ most ≤ maxBytes ⌝ }
-    ensures { λ r. ⌜ r ≡ first (suc rows) (isBadNumber w (now (offsets .entry)) most) ⌝ }
+    ensures { λ r. ⌜ r ≡ first (suc rows) (isBad w (numberAt w (now (offsets .entry))) most) ⌝ }
 {
     let mut before: u64 = 0;
     let mut i: usize = 0;
@@ -66,7 +66,7 @@ fn find_bad(offsets: &[u8], w: usize, rows: usize, most: u64) -> u64
 fn bad_offset(offsets: &[u8], w: usize, rows: usize, most: u64) -> u64
     requires { ⌜ Offsets w rows (now offsets) ⌝ }
     requires { ⌜ most ≤ maxBytes ⌝ }
-    ensures { λ r. ⌜ r ≡ first (suc rows) (isBadNumber w (now (offsets .entry)) most) ⌝ }
+    ensures { λ r. ⌜ r ≡ first (suc rows) (isBad w (numberAt w (now (offsets .entry))) most) ⌝ }
 {
     if falls(offsets, w, rows) | (number_at(offsets, w, rows) > most) {
         return find_bad(offsets, w, rows, most);

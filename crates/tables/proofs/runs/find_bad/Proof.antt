@@ -5,7 +5,8 @@ use mathlib.Core.Bool.{false}
 use Prim.Native.Nat.{ℕ, suc, _≤_, _<_, _-_}
 use native.Mathlib.Omega.{arith}
 use borrow.Author.Count.{below-more}
-use Rattle.tables.specs.Refusals.{isBadNumber}
+use Rattle.bits.specs.Numbers.{numberAt}
+use Rattle.tables.specs.Refusals.{isBad}
 use Rattle.bits.proofs.Sequences.{first-at, first-none}
 use Rattle.tables.proofs.Scans.{there, floor, floor-next, bad-test}
 use Rattle.tables.proofs.runs.find_bad.Statement.{statement}
@@ -13,7 +14,7 @@ use Rattle.tables.proofs.runs.find_bad.Tie as tie
 
 abbrev Inv-loop : tie.InvT-loop
 Inv-loop offsets w rows most before₀ i₀ before i =
-    (i ≤ suc rows) × (before ≡ floor w offsets i) × ((k : ℕ) → k < i → isBadNumber w offsets most k ≡ false)
+    (i ≤ suc rows) × (before ≡ floor w offsets i) × ((k : ℕ) → k < i → isBad w (numberAt w offsets) most k ≡ false)
 
 abbrev μ-loop : tie.MeasureT-loop
 μ-loop offsets w rows most before₀ i₀ before i = suc rows - i
@@ -30,7 +31,7 @@ returns c =
     let a = f .args in
     let l = c .before .before .before .loop in
     let t = bad-test (a .w) (a .offsets .now) (a .most) (l .i) (f .pre .0 .width) (f .pre .1) (l .inv .1) (c .before .number-at .ensures) (c .if1 .taken) in
-    sym (first-at (suc (a .rows)) (isBadNumber (a .w) (a .offsets .now) (a .most)) (l .i) (omega arith) t (l .inv .2))
+    sym (first-at (suc (a .rows)) (isBad (a .w) (numberAt (a .w) (a .offsets .now)) (a .most)) (l .i) (omega arith) t (l .inv .2))
 
 add-i : tie.Need-add-i Inv-loop μ-loop
 add-i c = omega arith
@@ -52,7 +53,7 @@ returns-2 c =
     let a = c .before .before .before .args in
     let l = c .before .loop in
     let e : l .i ≡ suc (a .rows) = omega arith in
-    e ∙ sym (first-none (suc (a .rows)) (isBadNumber (a .w) (a .offsets .now) (a .most)) (λ k h. l .inv .2 k (omega arith)))
+    e ∙ sym (first-none (suc (a .rows)) (isBad (a .w) (numberAt (a .w) (a .offsets .now)) (a .most)) (λ k h. l .inv .2 k (omega arith)))
 
 pub find-bad-spec : {M : Type 1} → statement M
 find-bad-spec =
