@@ -1,16 +1,16 @@
 -- Laws of the sequences of specs/Sequences.antt. Assumes nothing.
 use mathlib.Core.Path.{_≡_, refl, sym, _∙_, subst}
 use mathlib.Core.Logic.{_⊎_, inl, inr}
-use mathlib.Core.Bool.{Bool, true, false, cond, _||_, false≢true}
+use mathlib.Core.Bool.{Bool, true, false, cond, _||_}
 use mathlib.Core.List.{List, [], _∷_, _++_, append-assoc, append-nil}
-use Prim.Native.Nat.{ℕ, zero, suc, _+_, _-_, _*_, _≤_, _<_}
+use Prim.Native.Nat.{ℕ, zero, suc, _+_, _-_, _*_, _≤_, _<_, suc-le-suc}
 use native.Mathlib.Nat.{add-zero, add-suc, add-assoc, mul-zero, not-suc-le-zero, le-of-suc-le-suc, eq-or-lt-of-le, add-mul, zero-mul, suc-mul, mul-one, le-refl, zero-lt-suc}
 use native.Mathlib.Omega.{arith}
 use lib.ListN.{length, getD, drop, length-append, length-drop, List·getD-append}
 use lib.Seq.{take-append-le, drop-append-le, drop-append-seam, take-length, getD-at}
-use Prim.Native.Nat.{suc-le-suc}
 use Rattle.bits.specs.Sequences.{concat, sum, any, first}
 use Rattle.bits.specs.Bytes.{part}
+use Rattle.bits.proofs.Tests.{or-false, or-left, or-right}
 
 -- what holds at n and below n holds below n + 1
 pub below-suc : (P : ℕ → Type 0) (n : ℕ) → P n → ((i : ℕ) → i < n → P i) → (i : ℕ) → i < suc n → P i
@@ -146,14 +146,6 @@ getD-tabulate (suc n) f =
 
 -- ---- searches
 
-or-right : (a b : Bool) → b ≡ true → (a || b) ≡ true
-or-right true b e = refl
-or-right false b e = e
-
-or-left : (a b : Bool) → a ≡ true → (a || b) ≡ true
-or-left true b e = refl
-or-left false b e = absurd (false≢true e)
-
 -- some index passes: any of them shows it
 pub any-at : (n : ℕ) (p : ℕ → Bool) (i : ℕ) → i < n → p i ≡ true → any n p ≡ true
 any-at zero p = λ i h. absurd (not-suc-le-zero h)
@@ -202,3 +194,18 @@ first-at zero p i h t r = absurd (not-suc-le-zero h)
 first-at (suc n) p zero h t r = rw t
 first-at (suc n) p (suc i) h t r =
     rw (r zero (zero-lt-suc i), first-at n (λ k. p (suc k)) i (le-of-suc-le-suc h) t (λ k l. r (suc k) (suc-le-suc l)))
+
+-- no index passes
+pub any-none : (n : ℕ) (p : ℕ → Bool) → any n p ≡ false → (i : ℕ) → i < n → p i ≡ false
+any-none zero p e = λ i h. absurd (not-suc-le-zero h)
+any-none (suc n) p e =
+    let d : (any n p ≡ false) × (p n ≡ false) = or-false (any n p) (p n) e in
+    below-suc (λ (i : ℕ). p i ≡ false) n (d .1) (any-none n p (d .0))
+
+-- ---- numbers that never fall are at most the last
+
+pub climb : (n : ℕ) (f : ℕ → ℕ) → ((k : ℕ) → k < n → f k ≤ f (suc k)) → (i : ℕ) → i < suc n → f i ≤ f n
+climb zero f h = below-suc (λ (i : ℕ). f i ≤ f 0) 0 (le-refl (f 0)) (λ i l. absurd (not-suc-le-zero l))
+climb (suc n) f h =
+    below-suc (λ (i : ℕ). f i ≤ f (suc n)) (suc n) (le-refl (f (suc n)))
+    (λ i l. omega (arith, climb n f (λ k m. h k (omega arith)) i l, h n (omega arith)))

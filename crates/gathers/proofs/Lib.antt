@@ -3,6 +3,7 @@ pub mod Store
 pub mod Reach
 pub mod Replaced
 pub mod Runs
+pub mod Masked
 pub mod Blanked
 pub mod Regular
 pub mod ReadBack

@@ -17,7 +17,7 @@ use Rattle.gathers.specs.Stored.{Output}
 use Rattle.gathers.specs.Gather.{outOfRange, rangeRefusal, gather}
 use Rattle.bits.proofs.Sequences.{first-cong}
 use Rattle.tables.proofs.Offsets.{run-facts}
-use Rattle.tables.proofs.Facts.{RunKind, Formed, formed, form-passed}
+use Rattle.tables.proofs.Facts.{RunKind, Formed, formed}
 use Rattle.tables.proofs.Lines.{orElse-passes}
 use Rattle.gathers.proofs.Stages.{finish, gather-stages, finish-refused, in-range}
 use Rattle.gathers.proofs.Store.{finish-cong}
@@ -27,6 +27,7 @@ use Rattle.tables.specs.declared.table.Table.{Table}
 use Rattle.tables.specs.declared.table.Indices.{Indices}
 use Rattle.tables.proofs.Needed.{valid-same, form-same, entries-same, GoodRuns, bytes-same, index-valid-same, index-same, index-form-same}
 use Rattle.tables.proofs.Views.{run-kind-at, rows-like, rowsOf-by}
+use Rattle.tables.proofs.Stages.{form-passed}
 
 -- ---- a column
 

@@ -27,13 +27,15 @@ use Rattle.bits.proofs.Sequences.{sum-const, sum-mono, sum-le, part-block, part
 use Rattle.bits.proofs.Numbers.{numberAt-concat}
 use Rattle.bits.proofs.Bits.{bitAt-packed, validAt-packed}
 use Rattle.tables.proofs.Offsets.{RunFacts, run-facts}
-use Rattle.tables.proofs.Facts.{RunKind, Formed, formed, form-passed, IndexFormed, index-formed}
+use Rattle.tables.proofs.Facts.{RunKind, Formed, formed, IndexFormed, index-formed}
 use Rattle.tables.proofs.Rows.{regular-column, run-entries}
 use Rattle.gathers.proofs.Stages.{in-range, Passed, no-overflow}
 use Rattle.gathers.proofs.Reach.{named-in-range, taken-named}
 use Rattle.gathers.proofs.Regular.{regular-take}
 use Rattle.gathers.proofs.Cases.{gathered-passed, gathered-stored}
 use Rattle.tables.proofs.Views.{offsetAt-number, run-kind-at, rows-like, rowsOf-by}
+use Rattle.tables.proofs.Stages.{form-passed}
+use Rattle.gathers.proofs.Masked.{bit-row}
 
 -- the output buffers as a column like c
 abbrev pub storedColumn : Layout → Column → Rows → Output → Column
@@ -123,12 +125,6 @@ module _ (v : Rows) (u : ℕ) (few : (i : ℕ) → i < v .count → v .entries i
           → startOf v (v .count) < 256 ^ (v .offsetWidth)
       go true d w e = rw (eqb-true (v .offsetWidth) 4 d) (lt-of-le-of-lt (last (v .count) (ltb-false (first (v .count) p) (v .count) e)) (lit< tt))
       go false d w e = rw (eqb-true (v .offsetWidth) 8 w) (lt-of-le-of-lt total-le (lit< tt))
-
--- a row of bits is 0 or 1
-bit-row : (t b : Bool) → bitValue (isSet (cond t (bitValue b ∷ []) (0 ∷ []))) ∷ [] ≡ cond t (bitValue b ∷ []) (0 ∷ [])
-bit-row true true = refl
-bit-row true false = refl
-bit-row false b = refl
 
 module _ (k : Kind) (un : Bool) (c : Column) (x : IndexColumn) (index-ok : IndexFormed x) (inside : ltb (outOfRange (c .table .rows) x) (x .indices .count) ≡ false) where
   taken-storable : (l : Layout) → RunKind l c → Formed k l c → ltb (overflowAt l (takeRows (rowsBy k un l c) x)) (x .indices .count) ≡ false → Storable l (c .table .«offset_width») (takeRows (rowsBy k un l c) x)

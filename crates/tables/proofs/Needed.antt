@@ -1,16 +1,13 @@
 -- A column and an index column are read in their needed bytes alone (specs/Needed.antt). Assumes nothing.
 use mathlib.Core.Path.{_≡_, refl, sym, ap, _∙_}
-use mathlib.Core.Bool.{Bool, true, false, not, _&&_, _||_}
+use mathlib.Core.Bool.{Bool}
 use mathlib.Core.List.{List, [], _∷_}
-use Prim.Native.Nat.{ℕ, zero, suc, _+_, _-_, _*_, _/_, _≤_, _<_}
+use Prim.Native.Nat.{ℕ, suc, _+_, _-_, _*_, _≤_, _<_}
 use native.Mathlib.Nat.{mul-le-mul-right, suc-mul, add-mul}
 use native.Mathlib.Omega.{arith}
-use lib.Dec.{eqb, leb, ltb}
-use lib.ListN.{length, take}
-use Rattle.bits.specs.Sequences.{first}
+use lib.ListN.{take}
 use Rattle.bits.specs.Bytes.{part}
-use Rattle.bits.specs.Numbers.{numberAt, isNegative}
-use Rattle.bits.specs.Bits.{bitValue, bitAt, bytesFor, validAt}
+use Rattle.bits.specs.Bits.{bitValue, bytesFor, validAt}
 use Rattle.tables.specs.declared.table.Kind.{Kind}
 use Rattle.tables.specs.declared.table.Layout.{Layout}
 use Rattle.tables.specs.declared.table.Layout.the-variants.{Blocks, Bits, Runs}

@@ -3,7 +3,7 @@ use mathlib.Core.Path.{_≡_, refl, sym, _∙_}
 use mathlib.Core.Bool.{Bool, true, false, not, _&&_, _||_}
 use mathlib.Core.List.{List}
 use Prim.Native.Nat.{ℕ, zero, suc, _+_, _-_, _*_, _^_, _≤_, _<_}
-use native.Mathlib.Nat.{le-refl, not-suc-le-zero, mul-le-mul-right}
+use native.Mathlib.Nat.{mul-le-mul-right}
 use native.Mathlib.Numerals.{add-one}
 use native.Mathlib.Omega.{arith}
 use lib.Dec.{eqb, ltb, eqb·suc-zero}
@@ -14,8 +14,8 @@ use Rattle.bits.specs.Numbers.{numberAt, isNegative, isNumberWidth}
 use Rattle.tables.specs.Kinds.{isOffsetWidth}
 use Rattle.tables.specs.Refusals.{maxBytes, isBad}
 use Rattle.tables.specs.Bounds.{Offsets}
-use Rattle.bits.proofs.Tests.{or-false}
-use Rattle.bits.proofs.Sequences.{below-suc, first-none}
+use Rattle.bits.proofs.Tests.{or-true}
+use Rattle.bits.proofs.Sequences.{first-none, any-none, climb}
 use Rattle.tables.proofs.Bounds.{offset-number-width}
 use Rattle.tables.proofs.Offsets.{wide}
 
@@ -33,19 +33,6 @@ there {w} {rows} {s} o i h =
 abbrev pub fallsAfter : ℕ → List ℕ → ℕ → Bool
 fallsAfter w s k = ltb (numberAt w s (suc k)) (numberAt w s k)
 
-pub any-none : (n : ℕ) (p : ℕ → Bool) → any n p ≡ false → (i : ℕ) → i < n → p i ≡ false
-any-none zero p e = λ i h. absurd (not-suc-le-zero h)
-any-none (suc n) p e =
-    let d : (any n p ≡ false) × (p n ≡ false) = or-false (any n p) (p n) e in
-    below-suc (λ (i : ℕ). p i ≡ false) n (d .1) (any-none n p (d .0))
-
--- numbers that never fall are at most the last
-climb : (n : ℕ) (f : ℕ → ℕ) → ((k : ℕ) → k < n → f k ≤ f (suc k)) → (i : ℕ) → i < suc n → f i ≤ f n
-climb zero f h = below-suc (λ (i : ℕ). f i ≤ f 0) 0 (le-refl (f 0)) (λ i l. absurd (not-suc-le-zero l))
-climb (suc n) f h =
-    below-suc (λ (i : ℕ). f i ≤ f (suc n)) (suc n) (le-refl (f (suc n)))
-    (λ i l. omega (arith, climb n f (λ k m. h k (omega arith)) i l, h n (omega arith)))
-
 -- ---- bad offsets
 
 -- what offset i may not be below: the offset before, and 0 for the first
@@ -56,10 +43,6 @@ floor w s (suc i) = numberAt w s i
 floor-test : (w : ℕ) (s : List ℕ) (i : ℕ) → (not (eqb i 0) && ltb (numberAt w s i) (numberAt w s (i - 1))) ≡ ltb (numberAt w s i) (floor w s i)
 floor-test w s zero = sym (le-ltb (numberAt w s 0) 0 (omega arith))
 floor-test w s (suc i) = let d : suc i - 1 ≡ i = omega arith in rw (eqb·suc-zero i, d)
-
-or-true : (a : Bool) → (a || true) ≡ true
-or-true true = refl
-or-true false = refl
 
 -- below 0 is above H: two tests tell a bad offset
 pub bad-number : (w : ℕ) (s : List ℕ) (most i : ℕ) → isOffsetWidth w ≡ true → most ≤ maxBytes

@@ -1,6 +1,6 @@
 -- Refusals 1 to 4 as two stages, sizes and offsets: what a stage that lets pass says, and the answer of the two. Assumes nothing.
 use mathlib.Core.Path.{_≡_, refl, sym, ap, _∙_}
-use mathlib.Core.Bool.{Bool, true, false, _||_, false≢true}
+use mathlib.Core.Bool.{true, false, false≢true}
 use mathlib.Core.List.{[]}
 use Prim.Native.Nat.{ℕ, suc, _*_, _/_, _≤_, _<_}
 use native.Mathlib.Nat.{div-le-self}
@@ -22,9 +22,9 @@ use Rattle.tables.specs.Answers.{refuse, accept, passes, _orElse_, refus
 use Rattle.bits.specs.Numbers.{numberAt}
 use Rattle.tables.specs.Refusals.{maxBytes, valuesShort, validityShort, isBad, Form, columnForm, indexForm, either, sizeLines, offsetLines, columnLines, columnRefusal, indexRefusal, formRefusal, sizesRefusal, offsetsRefusal, WellFormed}
 use Rattle.tables.specs.Bounds.{RowFits, Bounds, Offsets, Sized}
-use Rattle.bits.proofs.Tests.{or-false}
-use Rattle.tables.proofs.Lines.{firstOf-append, none-met}
-use Rattle.tables.proofs.Facts.{form-passed, IndexFormed, index-formed}
+use Rattle.bits.proofs.Tests.{or-false, or-none}
+use Rattle.tables.proofs.Lines.{firstOf-append, none-met, none-met-passes, orElse-passes}
+use Rattle.tables.proofs.Facts.{formed-by, well-formed, IndexFormed, index-formed}
 use Rattle.tables.proofs.Bounds.{limits, row-fits, bounds, fits-at}
 
 -- ---- a column that passed refusals 1 to 3
@@ -122,20 +122,30 @@ fit (Unfit r) e = absurd (false≢true (sym (refusing r) ∙ ap passes e))
 
 -- ---- what a stage that lets pass says
 
-pub sizes-passed : (c : Column) (x : IndexColumn) → sizesRefusal c x ≡ accept → Sized c × (indexRefusal x ≡ accept)
+pub sizes-passed : (c : Column) (x : IndexColumn) → passes (sizesRefusal c x) ≡ true → Sized c × (passes (indexRefusal x) ≡ true)
 unfolding sizesRefusal indexRefusal
 sizes-passed c x e =
     let f : Form = columnForm (kindAt c) (layoutAt c) c in
     let g : Form = indexForm x in
-    let met = none-met (sizeLines (either f g)) (refl, (refl, (refl, tt))) e in
+    let met = none-met-passes (sizeLines (either f g)) (refl, (refl, (refl, tt))) e in
     let k : (f .kind ≡ false) × (g .kind ≡ false) = or-false (f .kind) (g .kind) (met 0) in
     let l : (f .limit ≡ false) × (g .limit ≡ false) = or-false (f .limit) (g .limit) (met 1) in
     let s : (f .short ≡ false) × (g .short ≡ false) = or-false (f .short) (g .short) (met 2) in
     (record { kind = k .0; limit = l .0; short = s .0 }, rw (k .1, l .1, s .1))
 
+-- a column that passes both stages with an index column is well-formed, and the index column passes by itself
+pub form-passed : (c : Column) (x : IndexColumn) → passes (formRefusal c x) ≡ true → WellFormed c × (passes (indexRefusal x) ≡ true)
+unfolding offsetsRefusal
+form-passed c x e =
+    let k : Kind = kindAt c in
+    let l : Layout = layoutAt c in
+    let p : (passes (sizesRefusal c x) ≡ true) × (passes (offsetsRefusal c) ≡ true) = orElse-passes (sizesRefusal c x) (offsetsRefusal c) (rw (form-stages c x) at e) in
+    let q : Sized c × (passes (indexRefusal x) ≡ true) = sizes-passed c x (p .0) in
+    (well-formed c (formed-by k l c (q .0 .kind) (q .0 .limit) (q .0 .short) (none-met-passes (offsetLines l c) (refl, tt) (p .1) 0)), q .1)
+
 -- the same, by what the first stage answers
 pub fit-sized : (c : Column) (x : IndexColumn) {s : Checked} → checkedNumbers s ≡ sizesRefusal c x → s ≡ Fit → Sized c
-fit-sized c x e f = sizes-passed c x (sym e ∙ ap checkedNumbers f) .0
+fit-sized c x e f = sizes-passed c x (ap passes (sym e ∙ ap checkedNumbers f)) .0
 
 -- both stages let pass: the column is well-formed, and the index column passes by itself
 pub fit-formed : (c : Column) (x : IndexColumn) {s : Checked} → checkedNumbers s ≡ formRefusal c x → s ≡ Fit → WellFormed c × IndexFormed x
@@ -154,10 +164,6 @@ well-formed-sized c e =
 -- the index column of no indices
 abbrev pub noIndices : IndexColumn
 noIndices = record { indices = record { width = 1; count = 0; «validity_bit» = 0 }; values = []; validity = [] }
-
-or-none : (a : Bool) → (a || false) ≡ a
-or-none true = refl
-or-none false = refl
 
 pub form-alone : (c : Column) → formRefusal c noIndices ≡ columnRefusal c
 unfolding formRefusal columnRefusal

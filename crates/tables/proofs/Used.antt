@@ -3,7 +3,7 @@ use mathlib.Core.Path.{_≡_, refl, sym, ap, _∙_, fun-ext}
 use mathlib.Core.Bool.{Bool, true, false, cond, not, _&&_, _||_}
 use mathlib.Core.List.{List}
 use Prim.Native.Nat.{ℕ, _+_}
-use lib.Dec.{eqb, ltb}
+use lib.Dec.{ltb}
 use lib.ListN.{length}
 use borrow.Author.Tests.{eqb-true}
 use Rattle.bits.specs.Bits.{bytesFor, isAbsent, validAt}
@@ -14,7 +14,7 @@ use Rattle.tables.specs.Columns.{Column, IndexColumn, kindAt, layoutAt, 
 use Rattle.tables.specs.Answers.{firstOf}
 use Rattle.tables.specs.Refusals.{maxBit, maxBytes, validityOverLimit, validityShort, formLines, formRefusal}
 use Rattle.tables.specs.Rows.{Rows, rowsBy, rowsOf, rowsLike}
-use Rattle.tables.specs.Used.{usedFields, usedBit, usedAs, used}
+use Rattle.tables.specs.Used.{usedBit, usedAs, used}
 use Rattle.bits.proofs.Bits.{validAt-absent}
 
 -- ---- the bit offset of an absent validity
