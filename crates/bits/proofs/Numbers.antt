@@ -3,12 +3,12 @@ use mathlib.Core.Path.{_≡_, refl, sym, ap, _∙_}
 use mathlib.Core.Bool.{Bool, true, false, false≢true}
 use mathlib.Core.List.{List, [], _∷_, _++_}
 use Prim.Native.Nat.{ℕ, zero, suc, _+_, _*_, _/_, _%_, _^_, _≤_, _<_}
-use native.Mathlib.Nat.{zero-add, suc-add, one-mul, mul-one, mul-assoc, mul-left-comm, pow-zero, pow-succ', div-one, div-div-eq-div-mul}
+use native.Mathlib.Nat.{zero-add, suc-add, one-mul, mul-one, mul-assoc, pow-zero, pow-succ', div-one, div-div-eq-div-mul}
 use native.Mathlib.Numerals.{add-one}
 use native.Mathlib.Omega.{arith}
 use lib.Dec.{eqb}
 use lib.ListN.{length, getD, take, drop, set, length-drop}
-use lib.Seq.{drop-cons, take-suc, getD-drop, length-take-le}
+use lib.Seq.{drop-cons, getD-drop}
 use borrow.Author.Tests.{eqb-true, ne-eqb}
 use mir.Syntax.{w8}
 use mir.Val.{Fits}
@@ -37,25 +37,10 @@ unfolding numberAt
 numberAt-concat w n f rest i h b =
     ap littleEndian (part-block n w (λ k. toLittleEndian w (f k)) rest (λ k l. length-toLittleEndian w (f k)) i h) ∙ littleEndian-to w (f i) b
 
--- ---- steps of loops
+-- ---- one more byte
 
--- one more byte, from the end: how a loop that goes up reads a number
-pub littleEndian-snoc : (a : List ℕ) (b : ℕ) → littleEndian (a ++ (b ∷ [])) ≡ littleEndian a + b * 256 ^ length a
-littleEndian-snoc [] b = omega arith
-littleEndian-snoc (x ∷ xs) b =
-    let e : littleEndian (xs ++ (b ∷ [])) ≡ littleEndian xs + b * 256 ^ length xs = littleEndian-snoc xs b in
-    let p : b * 256 ^ suc (length xs) ≡ 256 * (b * 256 ^ length xs) = ap (λ (k : ℕ). b * k) (pow-succ' 256 (length xs)) ∙ mul-left-comm b 256 (256 ^ length xs) in
-    omega arith
-
-pub number-step : (s : List ℕ) (p j : ℕ) → p + j < length s → littleEndian (part p (suc j) s) ≡ littleEndian (part p j s) + getD s (p + j) 0 * 256 ^ j
-number-step s p j h =
-    let l : j < length (drop p s) = omega (arith, length-drop p s) in
-    let t : length (take j (drop p s)) ≡ j = length-take-le j (drop p s) (omega arith) in
-    rw (take-suc (drop p s) j 0 l, littleEndian-snoc, t, getD-drop)
-
--- one more byte in front: how a loop that goes down reads a number
-pub number-step-down : (s : List ℕ) (p n : ℕ) → p < length s → littleEndian (part p (suc n) s) ≡ getD s p 0 + 256 * littleEndian (part (suc p) n s)
-number-step-down s p n h = rw (drop-cons s p 0 h)
+pub number-step : (s : List ℕ) (p n : ℕ) → p < length s → littleEndian (part p (suc n) s) ≡ getD s p 0 + 256 * littleEndian (part (suc p) n s)
+number-step s p n h = rw (drop-cons s p 0 h)
 
 -- buffers that agree on their first m bytes have the same numbers in them
 pub numberAt-cong : (w m : ℕ) (a b : List ℕ) (i : ℕ) → take m a ≡ take m b → i * w + w ≤ m → numberAt w a i ≡ numberAt w b i
@@ -126,7 +111,7 @@ pub littleEndian-from : (w p : ℕ) (s : List ℕ) → p + w ≤ length s → li
 littleEndian-from zero p s h = refl
 littleEndian-from (suc w) p s h =
     let e : littleEndian (part (p + 1) w s) ≡ numberFrom w (p + 1) s = littleEndian-from w (p + 1) s (omega arith) in
-    number-step-down s p w (omega arith) ∙ rw (← add-one p, e)
+    number-step s p w (omega arith) ∙ rw (← add-one p, e)
 
 -- a number of one byte
 pub littleEndian-byte : (p : ℕ) (s : List ℕ) → p < length s → littleEndian (part p 1 s) ≡ getD s p 0

@@ -10,7 +10,7 @@ use lib.ListN.{length, getD, drop, length-append, length-drop, List·getD-append
 use lib.Seq.{take-append-le, drop-append-le, drop-append-seam, take-length, getD-at}
 use Rattle.bits.specs.Sequences.{concat, sum, any, first}
 use Rattle.bits.specs.Bytes.{part}
-use Rattle.bits.proofs.Tests.{or-false, or-left, or-right}
+use Rattle.bits.proofs.Tests.{or-false, or-left, or-right, or-none, or-assoc}
 
 -- what holds at n and below n holds below n + 1
 pub below-suc : (P : ℕ → Type 0) (n : ℕ) → P n → ((i : ℕ) → i < n → P i) → (i : ℕ) → i < suc n → P i
@@ -194,6 +194,11 @@ first-at zero p i h t r = absurd (not-suc-le-zero h)
 first-at (suc n) p zero h t r = rw t
 first-at (suc n) p (suc i) h t r =
     rw (r zero (zero-lt-suc i), first-at n (λ k. p (suc k)) i (le-of-suc-le-suc h) t (λ k l. r (suc k) (suc-le-suc l)))
+
+-- some index below n passes, or some of the m after them
+pub any-add : (n m : ℕ) (p : ℕ → Bool) → any (n + m) p ≡ (any n p || any m (λ k. p (n + k)))
+any-add n zero p = rw add-zero (sym (or-none (any n p)))
+any-add n (suc m) p = rw (add-suc, any-add n m p) (or-assoc (any n p) (any m (λ k. p (n + k))) (p (n + m)))
 
 -- no index passes
 pub any-none : (n : ℕ) (p : ℕ → Bool) → any n p ≡ false → (i : ℕ) → i < n → p i ≡ false

@@ -3,7 +3,7 @@ use mathlib.Core.Path.{_≡_, refl, sym, _∙_}
 use mathlib.Core.Bool.{Bool, true, false, not, _&&_, _||_}
 use mathlib.Core.List.{List}
 use Prim.Native.Nat.{ℕ, zero, suc, _+_, _-_, _*_, _^_, _≤_, _<_}
-use native.Mathlib.Nat.{mul-le-mul-right}
+use native.Mathlib.Nat.{add-zero, mul-le-mul-right}
 use native.Mathlib.Numerals.{add-one}
 use native.Mathlib.Omega.{arith}
 use lib.Dec.{eqb, ltb, eqb·suc-zero}
@@ -12,10 +12,10 @@ use borrow.Author.Tests.{ltb-false, le-ltb, lt-leb}
 use Rattle.bits.specs.Sequences.{any, first}
 use Rattle.bits.specs.Numbers.{numberAt, isNegative, isNumberWidth}
 use Rattle.tables.specs.Kinds.{isOffsetWidth}
-use Rattle.tables.specs.Refusals.{maxBytes, isBad}
+use Rattle.tables.specs.Refusals.{maxBytes, isBad, falls}
 use Rattle.tables.specs.Bounds.{Offsets}
 use Rattle.bits.proofs.Tests.{or-true}
-use Rattle.bits.proofs.Sequences.{first-none, any-none, climb}
+use Rattle.bits.proofs.Sequences.{first-none, any-none, any-add, climb}
 use Rattle.tables.proofs.Bounds.{offset-number-width}
 use Rattle.tables.proofs.Offsets.{wide}
 
@@ -28,10 +28,6 @@ there {w} {rows} {s} o i h =
     (offset-number-width w (o .width), omega (arith, o .fits))
 
 -- ---- some offset is below the one before
-
--- the offset after offset k is below it
-abbrev pub fallsAfter : ℕ → List ℕ → ℕ → Bool
-fallsAfter w s k = ltb (numberAt w s (suc k)) (numberAt w s k)
 
 -- ---- bad offsets
 
@@ -54,11 +50,11 @@ bad-number w s most i e h = rw (floor-test w s i) (go (numberAt w s i) (ltb most
     go n false d = rw (lt-leb (2 ^ (8 * w - 1)) n (omega (arith, ltb-false most n d, wide w e .0)))
 
 -- no offset falls, and the last is at most H: none is bad
-pub all-good : (w : ℕ) (s : List ℕ) (most rows : ℕ) → isOffsetWidth w ≡ true → most ≤ maxBytes → any rows (fallsAfter w s) ≡ false
+pub all-good : (w : ℕ) (s : List ℕ) (most rows : ℕ) → isOffsetWidth w ≡ true → most ≤ maxBytes → any rows (falls (numberAt w s)) ≡ false
     → numberAt w s rows ≤ most → first (suc rows) (isBad w (numberAt w s) most) ≡ suc rows
 all-good w s most rows e h a l =
     let rises : (k : ℕ) → k < rows → numberAt w s k ≤ numberAt w s (suc k) =
-    λ k b. ltb-false (numberAt w s (suc k)) (numberAt w s k) (any-none rows (fallsAfter w s) a k b) in
+    λ k b. ltb-false (numberAt w s (suc k)) (numberAt w s k) (any-none rows (falls (numberAt w s)) a k b) in
     let good : (i : ℕ) → i < suc rows → isBad w (numberAt w s) most i ≡ false = λ i b. bad-number w s most i e h ∙ good-test rises i b in
     first-none (suc rows) (isBad w (numberAt w s) most) good
   where
@@ -72,10 +68,28 @@ all-good w s most rows e h a l =
 
 -- ---- steps of the loops
 
--- one more offset of the pass
-pub falls-next : (w : ℕ) (s : List ℕ) (i : ℕ) {bad : Bool} {before offset : ℕ} → bad ≡ any i (fallsAfter w s) → before ≡ numberAt w s i
-    → offset ≡ numberAt w s (i + 1) → (bad || ltb offset before) ≡ any (i + 1) (fallsAfter w s)
-falls-next w s i e d f = rw (e, d, f, add-one i)
+-- of the pass: none of the first i falls; and m more are looked at
+module _ (offset : ℕ → ℕ) (i m : ℕ) (none : any i (falls offset) ≡ false) where
+  -- one of them falls
+  pub falls-found : (rows : ℕ) → i + m ≤ rows → any m (λ k. falls offset (i + k)) ≡ true → any rows (falls offset) ≡ true
+  falls-found rows h e =
+      let d : rows ≡ i + m + (rows - (i + m)) = omega arith in
+      rw (d, any-add (i + m) (rows - (i + m)) (falls offset), any-add i m (falls offset), none, e)
+
+  -- none of them falls
+  pub falls-not : any m (λ k. falls offset (i + k)) ≡ false → any (i + m) (falls offset) ≡ false
+  falls-not e = rw (any-add i m (falls offset), none, e)
+
+-- one test
+pub one-test : (offset : ℕ → ℕ) (i : ℕ) {a b : ℕ} {t : Bool} → a ≡ offset i → b ≡ offset (i + 1) → ltb b a ≡ t → any 1 (λ j. falls offset (i + j)) ≡ t
+one-test offset i e f h = rw (add-zero i, ← add-one i, ← e, ← f) h
+
+-- the eight tests of a turn
+pub eight-tests : (offset : ℕ → ℕ) (i : ℕ) {a b c d e f g h k : ℕ} → a ≡ offset i → b ≡ offset (i + 1) → c ≡ offset (i + 2) → d ≡ offset (i + 3) → e ≡ offset (i + 4) → f ≡ offset (i + 5) → g ≡ offset (i + 6) → h ≡ offset (i + 7) → k ≡ offset (i + 8)
+    → (ltb b a || ltb c b || ltb d c || ltb e d || ltb f e || ltb g f || ltb h g || ltb k h) ≡ any 8 (λ j. falls offset (i + j))
+eight-tests offset i ea eb ec ed ee ef eg eh ek =
+    let n : (j m : ℕ) → suc j ≡ m → suc (i + j) ≡ i + m = λ j m h. omega arith in
+    rw (ea, eb, ec, ed, ee, ef, eg, eh, ek, add-zero i, ← add-one i, n 1 2 refl, n 2 3 refl, n 3 4 refl, n 4 5 refl, n 5 6 refl, n 6 7 refl, n 7 8 refl)
 
 -- the test of an offset that is looked at
 pub bad-test : (w : ℕ) (s : List ℕ) (most i : ℕ) {before offset : ℕ} {t : Bool} → isOffsetWidth w ≡ true → most ≤ maxBytes → before ≡ floor w s i

@@ -1,4 +1,4 @@
-// Refusal 4: the offsets of a column of runs. One pass, without a branch, finds whether some offset is below the one before. Where none
+// Refusal 4: the offsets of a column of runs. One pass, eight offsets a turn, finds whether some offset is below the one before. Where none
 // is and the last is at most H, all are good: an offset below 0 is, read as unsigned, above every H. Only else is the place looked for.
 use crate::refusal::Checked;
 use crate::refusal::Refusal;
@@ -8,34 +8,58 @@ use crate::table::kind_of;
 use crate::table::layout_of;
 use bits::number::number_at;
 ghost use mathlib.Core.Path.{_≡_};
-ghost use Prim.Native.Nat.{suc, _≤_};
-ghost use lib.Dec.{ltb};
+ghost use Prim.Native.Nat.{suc, _+_, _≤_};
 ghost use Rattle.bits.specs.Sequences.{any, first};
 ghost use Rattle.bits.specs.Numbers.{numberAt};
 ghost use Rattle.tables.specs.Columns.{columnAt};
 ghost use Rattle.tables.specs.Answers.{checkedNumbers};
-ghost use Rattle.tables.specs.Refusals.{maxBytes, isBad, offsetsRefusal};
+ghost use Rattle.tables.specs.Refusals.{maxBytes, isBad, falls, offsetsRefusal};
 ghost use Rattle.tables.specs.Bounds.{Offsets, Sized};
 
-// Some offset is below the one before.
+// Some of the eight offsets after offset i is below the one before.
+fn falls_in_eight(offsets: &[u8], w: usize, rows: usize, i: usize) -> bool
+    requires { ⌜ Offsets w rows (now offsets) ⌝ }
+    requires { ⌜ i + 8 ≤ rows ⌝ }
+    ensures { λ r. ⌜ r ≡ any 8 (λ k. falls (numberAt w (now (offsets .entry))) (i + k)) ⌝ }
+{
+    let a = number_at(offsets, w, i);
+    let b = number_at(offsets, w, i + 1);
+    let c = number_at(offsets, w, i + 2);
+    let d = number_at(offsets, w, i + 3);
+    let e = number_at(offsets, w, i + 4);
+    let f = number_at(offsets, w, i + 5);
+    let g = number_at(offsets, w, i + 6);
+    let h = number_at(offsets, w, i + 7);
+    let k = number_at(offsets, w, i + 8);
+    (b < a) | (c < b) | (d < c) | (e < d) | (f < e) | (g < f) | (h < g) | (k < h)
+}
+
+// Some offset is below the one before: eight a turn, then single ones.
 fn falls_by(offsets: &[u8], w: usize, rows: usize) -> bool
     requires { ⌜ Offsets w rows (now offsets) ⌝ }
-    ensures { λ r. ⌜ r ≡ any rows (λ k. ltb (numberAt w (now (offsets .entry)) (suc k)) (numberAt w (now (offsets .entry)) k)) ⌝ }
+    ensures { λ r. ⌜ r ≡ any rows (falls (numberAt w (now (offsets .entry)))) ⌝ }
 {
-    let mut bad = false;
     let mut i = 0;
+    while 8 <= rows - i {
+        if falls_in_eight(offsets, w, rows, i) {
+            return true;
+        }
+        i += 8;
+    }
     while i < rows {
         let before = number_at(offsets, w, i);
         i += 1;
-        bad = bad | (number_at(offsets, w, i) < before);
+        if number_at(offsets, w, i) < before {
+            return true;
+        }
     }
-    bad
+    false
 }
 
-// The same. The literal widths have the loop compiled for each.
-fn falls(offsets: &[u8], w: usize, rows: usize) -> bool
+// The same. The literal widths have the loops compiled for each.
+fn falls_somewhere(offsets: &[u8], w: usize, rows: usize) -> bool
     requires { ⌜ Offsets w rows (now offsets) ⌝ }
-    ensures { λ r. ⌜ r ≡ any rows (λ k. ltb (numberAt w (now (offsets .entry)) (suc k)) (numberAt w (now (offsets .entry)) k)) ⌝ }
+    ensures { λ r. ⌜ r ≡ any rows (falls (numberAt w (now (offsets .entry)))) ⌝ }
 {
     if w == 4 {
         return falls_by(offsets, 4, rows);
@@ -68,7 +92,7 @@ fn bad_offset(offsets: &[u8], w: usize, rows: usize, most: u64) -> u64
     requires { ⌜ most ≤ maxBytes ⌝ }
     ensures { λ r. ⌜ r ≡ first (suc rows) (isBad w (numberAt w (now (offsets .entry))) most) ⌝ }
 {
-    if falls(offsets, w, rows) | (number_at(offsets, w, rows) > most) {
+    if falls_somewhere(offsets, w, rows) | (number_at(offsets, w, rows) > most) {
         return find_bad(offsets, w, rows, most);
     }
     rows as u64 + 1

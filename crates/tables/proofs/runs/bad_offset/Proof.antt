@@ -12,8 +12,8 @@ use Rattle.tables.proofs.Scans.{there, all-good}
 use Rattle.tables.proofs.runs.bad_offset.Statement.{statement}
 use Rattle.tables.proofs.runs.bad_offset.Tie as tie
 
-falls-requires : tie.Need-falls-requires
-falls-requires c κs = search needs
+falls-somewhere-requires : tie.Need-falls-somewhere-requires
+falls-somewhere-requires c κs = search needs
 
 number-at-requires : tie.Need-number-at-requires
 number-at-requires c κs = let f = c .before .before in there (f .pre .0) (f .args .rows) (le-refl (f .args .rows))
@@ -32,7 +32,7 @@ returns-2 c =
     let f = c .before .before .before .before in
     let a = f .args in
     let n = c .before .number-at in
-    let r = c .before .before .falls in
+    let r = c .before .before .falls-somewhere in
     let last = numberAt (a .w) (a .offsets .now) (a .rows) in
     let e = first-fails (ltb (a .most) (n .result)) (r .ensures) (c .if1 .left) in
     let l = second-fails (r .result) (ap (λ (m : ℕ). ltb (a .most) m) (n .ensures)) (c .if1 .left) in
@@ -42,4 +42,4 @@ returns-2 c =
 pub bad-offset-spec : {M : Type 1} → statement M
 bad-offset-spec =
     tie.close
-    (tie.spec falls-requires number-at-requires find-bad-requires returns add-result returns-2)
+    (tie.spec falls-somewhere-requires number-at-requires find-bad-requires returns add-result returns-2)

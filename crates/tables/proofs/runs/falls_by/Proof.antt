@@ -1,46 +1,94 @@
--- `tables::runs::falls_by` meets its contract. The loop's invariant: `bad` says whether one of the first i offsets is above the next.
+-- `tables::runs::falls_by` meets its contract. The invariant of both loops: of the first i offsets none is above the next.
 -- Assumes nothing.
-use mathlib.Core.Path.{_≡_, refl, ap, _∙_}
+use mathlib.Core.Path.{_≡_, refl, sym, ap, ap₂, _∙_}
+use mathlib.Core.Bool.{false}
 use Prim.Native.Nat.{ℕ, _≤_, _+_, _-_}
+use native.Mathlib.Numerals.{add-one}
 use native.Mathlib.Omega.{arith}
+use lib.Dec.{ltb}
+use borrow.Author.Needs.{needs}
+use borrow.Author.Tests.{lt-ltb, le-ltb}
 use Rattle.bits.specs.Sequences.{any}
-use Rattle.tables.proofs.Scans.{there, fallsAfter, falls-next}
+use Rattle.bits.specs.Numbers.{numberAt}
+use Rattle.tables.specs.Refusals.{falls}
+use Rattle.tables.proofs.Scans.{there, falls-found, falls-not, one-test}
 use Rattle.tables.proofs.runs.falls_by.Statement.{statement}
 use Rattle.tables.proofs.runs.falls_by.Tie as tie
 
 abbrev Inv-loop : tie.InvT-loop
-Inv-loop offsets w rows bad₀ i₀ bad i = (i ≤ rows) × (bad ≡ any i (fallsAfter w offsets))
+Inv-loop offsets w rows i₀ i = (i ≤ rows) × (any i (falls (numberAt w offsets)) ≡ false)
 
 abbrev μ-loop : tie.MeasureT-loop
-μ-loop offsets w rows bad₀ i₀ bad i = rows - i
+μ-loop offsets w rows i₀ i = rows - i
 
-loop-holds : tie.Need-loop-holds Inv-loop μ-loop
+abbrev Inv-loop2 : tie.InvT-loop2
+Inv-loop2 offsets w rows i₀ i = (i ≤ rows) × (any i (falls (numberAt w offsets)) ≡ false)
+
+abbrev μ-loop2 : tie.MeasureT-loop2
+μ-loop2 offsets w rows i₀ i = rows - i
+
+loop-holds : tie.Need-loop-holds Inv-loop μ-loop Inv-loop2 μ-loop2
 loop-holds c = (omega arith, refl)
 
-number-at-requires : tie.Need-number-at-requires Inv-loop μ-loop
-number-at-requires c κs = there (c .before .before .before .pre) (c .before .loop .i) (omega arith)
+sub-loop : tie.Need-sub-loop Inv-loop μ-loop Inv-loop2 μ-loop2
+sub-loop c = omega arith
 
-add-i : tie.Need-add-i Inv-loop μ-loop
+falls-in-eight-requires : tie.Need-falls-in-eight-requires Inv-loop μ-loop Inv-loop2 μ-loop2
+falls-in-eight-requires c κs = (c .before .before .before .pre, omega arith)
+
+returns : tie.Need-returns Inv-loop μ-loop Inv-loop2 μ-loop2
+returns c =
+    let a = c .before .before .before .before .before .args in
+    let l = c .before .before .before .loop in
+    sym (falls-found (numberAt (a .w) (a .offsets .now)) (l .i) 8 (l .inv .1) (a .rows) (omega arith) (sym (c .before .falls-in-eight .ensures) ∙ c .if1 .taken))
+
+add-i : tie.Need-add-i Inv-loop μ-loop Inv-loop2 μ-loop2
 add-i c = omega arith
 
-number-at-requires-2 : tie.Need-number-at-requires-2 Inv-loop μ-loop
-number-at-requires-2 c κs = there (c .before .before .before .before .pre) (c .before .before .loop .i + 1) (omega arith)
-
-loop-less : tie.Need-loop-less Inv-loop μ-loop
+loop-less : tie.Need-loop-less Inv-loop μ-loop Inv-loop2 μ-loop2
 loop-less c = omega arith
 
-loop-again : tie.Need-loop-again Inv-loop μ-loop
+loop-again : tie.Need-loop-again Inv-loop μ-loop Inv-loop2 μ-loop2
 loop-again c =
     let a = c .before .before .before .before .before .args in
     let l = c .before .before .before .loop in
-    (omega arith, falls-next (a .w) (a .offsets .now) (l .i) (l .inv .1) (c .before .number-at .ensures) (c .number-at2 .ensures))
+    (omega arith, falls-not (numberAt (a .w) (a .offsets .now)) (l .i) 8 (l .inv .1) (sym (c .before .falls-in-eight .ensures) ∙ c .if1 .left))
 
-returns : tie.Need-returns Inv-loop μ-loop
-returns c =
-    let a = c .before .before .before .args in
-    let l = c .before .loop in
+loop2-holds : tie.Need-loop2-holds Inv-loop μ-loop Inv-loop2 μ-loop2
+loop2-holds c = c .before .loop .inv
+
+number-at-requires : tie.Need-number-at-requires Inv-loop μ-loop Inv-loop2 μ-loop2
+number-at-requires c κs = there (c .before .before .before .before .before .pre) (c .before .loop2 .i) (omega arith)
+
+add-i-2 : tie.Need-add-i-2 Inv-loop μ-loop Inv-loop2 μ-loop2
+add-i-2 c = omega arith
+
+number-at-requires-2 : tie.Need-number-at-requires-2 Inv-loop μ-loop Inv-loop2 μ-loop2
+number-at-requires-2 c κs = there (c .before .before .before .before .before .before .pre) (c .before .before .loop2 .i + 1) (omega arith)
+
+returns-2 : tie.Need-returns-2 Inv-loop μ-loop Inv-loop2 μ-loop2
+returns-2 c =
+    let a = c .before .before .before .before .before .before .before .before .args in
+    let l = c .before .before .before .before .loop2 in
+    let o : ℕ → ℕ = numberAt (a .w) (a .offsets .now) in
+    sym (falls-found o (l .i) 1 (l .inv .1) (a .rows) (omega arith) (one-test o (l .i) (c .before .before .number-at .ensures) (c .before .number-at2 .ensures) (lt-ltb _ _ (c .if2 .taken))))
+
+loop2-less : tie.Need-loop2-less Inv-loop μ-loop Inv-loop2 μ-loop2
+loop2-less c = omega arith
+
+loop2-again : tie.Need-loop2-again Inv-loop μ-loop Inv-loop2 μ-loop2
+loop2-again c =
+    let a = c .before .before .before .before .before .before .before .before .args in
+    let l = c .before .before .before .before .loop2 in
+    let o : ℕ → ℕ = numberAt (a .w) (a .offsets .now) in
+    (omega arith, falls-not o (l .i) 1 (l .inv .1) (one-test o (l .i) (c .before .before .number-at .ensures) (c .before .number-at2 .ensures) (le-ltb _ _ (c .if2 .left))))
+
+returns-3 : tie.Need-returns-3 Inv-loop μ-loop Inv-loop2 μ-loop2
+returns-3 c =
+    let a = c .before .before .before .before .before .args in
+    let l = c .before .loop2 in
     let e : l .i ≡ a .rows = omega arith in
-    l .inv .1 ∙ ap (λ (n : ℕ). any n (fallsAfter (a .w) (a .offsets .now))) e
+    sym (ap (λ (n : ℕ). any n (falls (numberAt (a .w) (a .offsets .now)))) (sym e) ∙ l .inv .1)
 
 pub falls-by-spec : {M : Type 1} → statement M
 falls-by-spec =
@@ -48,10 +96,20 @@ falls-by-spec =
     (tie.spec
     Inv-loop
     μ-loop
+    Inv-loop2
+    μ-loop2
     loop-holds
-    number-at-requires
+    sub-loop
+    falls-in-eight-requires
+    returns
     add-i
-    number-at-requires-2
     loop-less
     loop-again
-    returns)
+    loop2-holds
+    number-at-requires
+    add-i-2
+    number-at-requires-2
+    returns-2
+    loop2-less
+    loop2-again
+    returns-3)

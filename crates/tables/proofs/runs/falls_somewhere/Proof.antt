@@ -1,12 +1,13 @@
--- `tables::runs::falls` meets its contract: an offset width is 4 or 8. Assumes nothing.
+-- `tables::runs::falls_somewhere` meets its contract: an offset width is 4 or 8. Assumes nothing.
 use mathlib.Core.Path.{sym, ap, subst, _∙_}
 use Prim.Native.Nat.{ℕ}
 use Rattle.bits.specs.Sequences.{any}
+use Rattle.bits.specs.Numbers.{numberAt}
+use Rattle.tables.specs.Refusals.{falls}
 use Rattle.tables.specs.Bounds.{Offsets}
 use Rattle.tables.proofs.Bounds.{offset-width-8}
-use Rattle.tables.proofs.Scans.{fallsAfter}
-use Rattle.tables.proofs.runs.falls.Statement.{statement}
-use Rattle.tables.proofs.runs.falls.Tie as tie
+use Rattle.tables.proofs.runs.falls_somewhere.Statement.{statement}
+use Rattle.tables.proofs.runs.falls_somewhere.Tie as tie
 
 falls-by-requires : tie.Need-falls-by-requires
 falls-by-requires c κs =
@@ -16,7 +17,7 @@ falls-by-requires c κs =
 returns : tie.Need-returns
 returns c =
     let a = c .before .before .before .args in
-    c .falls-by .ensures ∙ ap (λ (w : ℕ). any (a .rows) (fallsAfter w (a .offsets .now))) (sym (c .before .if1 .taken))
+    c .falls-by .ensures ∙ ap (λ (w : ℕ). any (a .rows) (falls (numberAt w (a .offsets .now)))) (sym (c .before .if1 .taken))
 
 falls-by-requires-2 : tie.Need-falls-by-requires-2
 falls-by-requires-2 c κs =
@@ -27,7 +28,7 @@ returns-2 : tie.Need-returns-2
 returns-2 c =
     let f = c .before .before .before in
     let a = f .args in
-    c .falls-by2 .ensures ∙ ap (λ (w : ℕ). any (a .rows) (fallsAfter w (a .offsets .now))) (sym (offset-width-8 (a .w) (f .pre .width) (c .before .if1 .left)))
+    c .falls-by2 .ensures ∙ ap (λ (w : ℕ). any (a .rows) (falls (numberAt w (a .offsets .now)))) (sym (offset-width-8 (a .w) (f .pre .width) (c .before .if1 .left)))
 
-pub falls-spec : {M : Type 1} → statement M
-falls-spec = tie.close (tie.spec falls-by-requires returns falls-by-requires-2 returns-2)
+pub falls-somewhere-spec : {M : Type 1} → statement M
+falls-somewhere-spec = tie.close (tie.spec falls-by-requires returns falls-by-requires-2 returns-2)
