@@ -98,7 +98,8 @@ fn bad_offset(offsets: &[u8], w: usize, rows: usize, most: u64) -> u64
     rows as u64 + 1
 }
 
-// Refusal 4 of a column that passed refusals 1 to 3. A column without offsets passes at once.
+// Refusal 4 of a column that passed refusals 1 to 3. A column without offsets passes at once. `validity` is not read: it belongs to
+// the column that the contract speaks of.
 pub fn check_offsets(table: Table, data: &[u8], offsets: &[u8], validity: &[u8]) -> Checked
     requires { ⌜ Sized (columnAt table «data» offsets validity) ⌝ }
     ensures { λ r. ⌜ checkedNumbers r ≡ offsetsRefusal (columnAt table («data» .entry) (offsets .entry) (validity .entry)) ⌝ }
