@@ -5,8 +5,8 @@ use Prim.Native.Nat.{ℕ, zero, suc, _+_, _-_, _*_, _≤_, _<_}
 use native.Mathlib.Nat.{mul-le-mul-right}
 use native.Mathlib.Numerals.{add-one}
 use native.Mathlib.Omega.{arith}
-use lib.ListN.{length, take, drop, set, length-append, length-drop, take-append-drop}
-use lib.Seq.{length-take-le, drop-cons, take-at, drop-at, drop-drop, take-take, take-add, take-append-le, take-length, set-append-seam, sets, sets-eq}
+use lib.ListN.{length, take, drop, set, length-append, length-drop}
+use lib.Seq.{length-take-le, drop-cons, take-at, drop-at, drop-drop, take-take, take-add, set-append-seam, sets, sets-eq}
 use Rattle.bits.specs.Bytes.{part, overwrite, overwriteAt}
 
 -- ---- lengths
@@ -75,6 +75,10 @@ part-take (suc p) n zero s h = absurd (omega arith)
 part-take (suc p) n (suc m) [] h = refl
 part-take (suc p) n (suc m) (b ∷ s) h = part-take p n m s (omega arith)
 
+-- buffers that agree on their first m bytes have the same parts in them
+pub part-cong : (m : ℕ) (a b : List ℕ) → take m a ≡ take m b → (p n : ℕ) → p + n ≤ m → part p n a ≡ part p n b
+part-cong m a b e p n h = sym (part-take p n m a h) ∙ ap (part p n) e ∙ part-take p n m b h
+
 -- ---- bytes written at a position
 
 pub overwriteAt-zero : (e s : List ℕ) → overwriteAt 0 e s ≡ overwrite e s
@@ -83,14 +87,15 @@ overwriteAt-zero e s = refl
 pub length-overwriteAt : (p : ℕ) (e s : List ℕ) → p + length e ≤ length s → length (overwriteAt p e s) ≡ length s
 length-overwriteAt p e s h = simp (length-append, length-drop) (omega (arith, length-take-le p s (omega arith)))
 
--- a, and b right after it: one after the other, or both at once
-pub overwriteAt-append : (p : ℕ) (a b s : List ℕ) → p ≤ length s → overwriteAt (p + length a) b (overwriteAt p a s) ≡ overwriteAt p (a ++ b) s
-overwriteAt-append p a b s h =
+-- the n bytes of a, and b right after them: one after the other, or both at once
+pub overwriteAt-append : (p n : ℕ) (a b s : List ℕ) → length a ≡ n → p ≤ length s → overwriteAt (p + n) b (overwriteAt p a s) ≡ overwriteAt p (a ++ b) s
+overwriteAt-append p n a b s e h =
     let t : List ℕ = take p s ++ a in
-    let l : length t ≡ p + length a = length-append (take p s) a ∙ ap (λ (n : ℕ). n + length a) (length-take-le p s h) in
-    let e : overwriteAt p a s ≡ t ++ drop (length a) (drop p s) = sym (append-assoc (take p s) a (drop (length a) (drop p s))) in
-    rw (e, take-at t (drop (length a) (drop p s)) (p + length a) l, drop-at t (drop (length a) (drop p s)) (p + length a) l)
-    (append-assoc (take p s) a (overwrite b (drop (length a) (drop p s))) ∙ ap (λ (r : List ℕ). take p s ++ r) (sym (overwrite-step a b (drop p s))))
+    let r : List ℕ = drop (length a) (drop p s) in
+    let l : length t ≡ p + n = length-append (take p s) a ∙ omega (arith, length-take-le p s h) in
+    let d : overwriteAt p a s ≡ t ++ r = sym (append-assoc (take p s) a r) in
+    rw (d, take-at t r (p + n) l, drop-at t r (p + n) l)
+    (append-assoc (take p s) a (overwrite b r) ∙ ap (λ (u : List ℕ). take p s ++ u) (sym (overwrite-step a b (drop p s))))
 
 -- the bytes e stored from position p on, one after the other: what a straight line of stores makes
 abbrev pub stores : ℕ → List ℕ → List ℕ → List ℕ
@@ -104,31 +109,3 @@ stores-sets p (b ∷ e) s = stores-sets (p + 1) e (set s p b) ∙ rw add-one
 pub stores-overwriteAt : (p : ℕ) (e s : List ℕ) → p + length e ≤ length s → stores p e s ≡ overwriteAt p e s
 stores-overwriteAt p e s h =
     stores-sets p e s ∙ sets-eq e s p h ∙ append-assoc (take p s) e (drop (p + length e) s) ∙ rw (← drop-drop (length e) p s)
-
--- ---- copies, in pieces that may overlap
-
--- the bytes from p on, after those before p
-pub copy-more : (p n : ℕ) (s d : List ℕ) → p ≤ length s → overwriteAt p (part p n s) (overwrite (take p s) d) ≡ overwrite (take (p + n) s) d
-copy-more p n s d h = overwrite-tail (take p s) (part p n s) d p (length-take-le p s h) ∙ rw (take-add p n s)
-
--- what is copied already may be copied again
-pub copy-again : (p k : ℕ) (s d : List ℕ) → p ≤ k → k ≤ length s → overwrite (take k s) d ≡ overwrite (take p s) (overwrite (take k s) d)
-copy-again p k s d h l =
-    let lk : length (take k s) ≡ k = length-take-le k s l in
-    let lp : length (take p s) ≡ p = length-take-le p s (omega arith) in
-    let e : take p (overwrite (take k s) d) ≡ take p s = take-append-le p (take k s) (drop (length (take k s)) d) (omega arith) ∙ take-take p k s h in
-    sym (take-append-drop p (overwrite (take k s) d)) ∙ rw (e, lp)
-
--- a whole copy does not see what a part of it has written
-pub copy-whole : (k : ℕ) (s d : List ℕ) → k ≤ length s → overwrite s (overwrite (take k s) d) ≡ overwrite s d
-copy-whole k s d l = overwrite-over (take k s) s d (omega (arith, length-take-le k s l))
-
--- the last n bytes, after the first k, wherever the two meet
-pub copy-last : (n k : ℕ) (s d : List ℕ) → n ≤ length s → length s ≤ k + n → k ≤ length s
-    → overwriteAt (length s - n) (part (length s - n) n s) (overwrite (take k s) d) ≡ overwrite s d
-copy-last n k s d h m l =
-    let p : ℕ = length s - n in
-    let e : p + n ≡ length s = omega arith in
-    ap (overwriteAt p (part p n s)) (copy-again p k s d (omega arith) l)
-    ∙ copy-more p n s (overwrite (take k s) d) (omega arith)
-    ∙ rw (e, take-length) (copy-whole k s d l)

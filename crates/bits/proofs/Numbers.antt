@@ -1,5 +1,5 @@
 -- Laws of little-endian numbers (specs/Numbers.antt): what is written is read back, bounds, halves, and the steps of loads and loops. Assumes nothing.
-use mathlib.Core.Path.{_≡_, refl, sym, ap, _∙_}
+use mathlib.Core.Path.{_≡_, refl, ap, _∙_}
 use mathlib.Core.Bool.{Bool, true, false, false≢true}
 use mathlib.Core.List.{List, [], _∷_, _++_}
 use Prim.Native.Nat.{ℕ, zero, suc, _+_, _*_, _/_, _%_, _^_, _≤_, _<_}
@@ -16,7 +16,7 @@ use Rattle.bits.specs.Sequences.{concat}
 use Rattle.bits.specs.Bytes.{part, overwriteAt}
 use Rattle.bits.specs.Numbers.{littleEndian, numberAt, toLittleEndian, isNumberWidth}
 use Rattle.bits.proofs.Sequences.{part-block}
-use Rattle.bits.proofs.Bytes.{part-add, part-take, length-part, stores-overwriteAt}
+use Rattle.bits.proofs.Bytes.{part-add, part-cong, length-part, stores-overwriteAt}
 
 pub length-toLittleEndian : (w n : ℕ) → length (toLittleEndian w n) ≡ w
 length-toLittleEndian zero n = refl
@@ -45,8 +45,7 @@ number-step s p n h = rw (drop-cons s p 0 h)
 -- buffers that agree on their first m bytes have the same numbers in them
 pub numberAt-cong : (w m : ℕ) (a b : List ℕ) (i : ℕ) → take m a ≡ take m b → i * w + w ≤ m → numberAt w a i ≡ numberAt w b i
 unfolding numberAt
-numberAt-cong w m a b i e h =
-    ap littleEndian (sym (part-take (i * w) w m a h) ∙ ap (part (i * w) w) e ∙ part-take (i * w) w m b h)
+numberAt-cong w m a b i e h = ap littleEndian (part-cong m a b e (i * w) w h)
 
 -- ---- bytes
 

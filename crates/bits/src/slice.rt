@@ -1,9 +1,9 @@
 // Copies of whole slices into the front of another, for rows of any length: the length class is tested first, and no class has a loop over bytes.
 // Where a class writes two numbers, they may overlap; both are read before either is written.
 ghost use mathlib.Core.Path.{_≡_};
-ghost use Prim.Native.Nat.{_≤_};
+ghost use Prim.Native.Nat.{_+_, _≤_, _<_};
 ghost use lib.ListN.{length};
-ghost use Rattle.bits.specs.Bytes.{overwrite};
+ghost use Rattle.bits.specs.Bytes.{part, overwrite, overwriteAt};
 use crate::number::read_u16;
 use crate::number::read_u32;
 use crate::number::read_u64;
@@ -47,27 +47,31 @@ fn copy_u64s(src: &[u8], dst: &mut [u8])
     write_u64(dst, last, y);
 }
 
-// For 16 bytes or more: 16 a turn, and a last turn that may overlap the one before it.
+// The 16 bytes at p: one load and one store.
+fn carry(src: &[u8], dst: &mut [u8], p: usize)
+    requires { ⌜ (p + 16 ≤ length (now src)) × (length (now src) ≤ length (now dst)) ⌝ }
+    ensures { λ _. ⌜ now (dst .exit) ≡ overwriteAt p (part p 16 (now (src .entry))) (now (dst .entry)) ⌝ }
+{
+    let q = p + 8;
+    let x = read_u64(src, p);
+    let y = read_u64(src, q);
+    write_u64(dst, p, x);
+    write_u64(dst, q, y);
+}
+
+// For more than 16 bytes: 16 a turn, and a last turn that may overlap the one before it.
 fn copy_long(src: &[u8], dst: &mut [u8])
-    requires { ⌜ (16 ≤ length (now src)) × (length (now src) ≤ length (now dst)) ⌝ }
+    requires { ⌜ (16 < length (now src)) × (length (now src) ≤ length (now dst)) ⌝ }
     ensures { λ _. ⌜ now (dst .exit) ≡ overwrite (now (src .entry)) (now (dst .entry)) ⌝ }
 {
     let n = src.len();
+    let last = n - 16;
     let mut k = 0;
-    while 16 < n - k {
-        let j = k + 8;
-        let x = read_u64(src, k);
-        let y = read_u64(src, j);
-        write_u64(dst, k, x);
-        write_u64(dst, j, y);
+    while k < last {
+        carry(src, dst, k);
         k += 16;
     }
-    let first = n - 16;
-    let last = n - 8;
-    let x = read_u64(src, first);
-    let y = read_u64(src, last);
-    write_u64(dst, first, x);
-    write_u64(dst, last, y);
+    carry(src, dst, last);
 }
 
 // Copies all of src into the front of dst.

@@ -1,12 +1,10 @@
 -- A column and an index column are read in their needed bytes alone (specs/Needed.antt). Assumes nothing.
-use mathlib.Core.Path.{_≡_, refl, sym, ap, _∙_}
+use mathlib.Core.Path.{_≡_, refl, sym, ap}
 use mathlib.Core.Bool.{Bool}
 use mathlib.Core.List.{List, [], _∷_}
 use Prim.Native.Nat.{ℕ, suc, _+_, _-_, _*_, _≤_, _<_}
 use native.Mathlib.Nat.{mul-le-mul-right, suc-mul, add-mul}
 use native.Mathlib.Omega.{arith}
-use lib.ListN.{take}
-use Rattle.bits.specs.Bytes.{part}
 use Rattle.bits.specs.Bits.{bitValue, bytesFor, validAt}
 use Rattle.tables.specs.declared.table.Kind.{Kind}
 use Rattle.tables.specs.declared.table.Layout.{Layout}
@@ -17,14 +15,11 @@ use Rattle.tables.specs.Refusals.{isBadOffset, badOffset, formLines, for
 use Rattle.tables.specs.Rows.{rowBytes, rowEntries}
 use Rattle.tables.specs.Needed.{Alike, SameNeededAt, SameIndexNeeded}
 use Rattle.bits.proofs.Sequences.{first-cong}
-use Rattle.bits.proofs.Bytes.{part-take}
+use Rattle.bits.proofs.Bytes.{part-cong}
 use Rattle.bits.proofs.Numbers.{numberAt-cong}
 use Rattle.bits.proofs.Bits.{bitAt-cong, validAt-cong}
 use Rattle.tables.proofs.Views.{kind-like, layout-like}
 use Rattle.tables.proofs.Offsets.{RunFacts, rises, offsets-mono}
-
-part-same : (m : ℕ) (a b : List ℕ) → take m a ≡ take m b → (p n : ℕ) → p + n ≤ m → part p n a ≡ part p n b
-part-same m a b e p n h = sym (part-take p n m a h) ∙ ap (part p n) e ∙ part-take p n m b h
 
 pub valid-same : (b n : ℕ) {v w : List ℕ} → Alike (bytesFor (b + n)) v w → (i : ℕ) → i < n → validAt v b i ≡ validAt w b i
 valid-same b n {v} {w} a i h = validAt-cong (bytesFor (b + n)) v w b i (a .lengths) (a .front) (omega arith)
@@ -74,7 +69,7 @@ module _ (c : Column) (values offsets validity : List ℕ) where
   GoodRuns (Runs u) = RunFacts u c
 
   pub bytes-same : (l : Layout) → GoodRuns l → SameNeededAt l c d → (i : ℕ) → i < c .table .rows → rowBytes l c i ≡ rowBytes l d i
-  bytes-same (Blocks n) g s i h = sym (part-same (c .table .rows * n) values (c .values) (s .values .front) (i * n) n (inside i (c .table .rows) n h))
+  bytes-same (Blocks n) g s i h = sym (part-cong (c .table .rows * n) values (c .values) (s .values .front) (i * n) n (inside i (c .table .rows) n h))
   bytes-same Bits g s i h =
       ap (λ (b : Bool). bitValue b ∷ [])
       (sym (bitAt-cong (bytesFor (c .table .«data_bit» + c .table .rows)) values (c .values) (c .table .«data_bit» + i) (s .values .front) (omega arith)))
@@ -84,7 +79,7 @@ module _ (c : Column) (values offsets validity : List ℕ) where
       let e : a + n ≡ offsetAt c (suc i) = omega (arith, rises u c g i h) in
       let m : (a + n) * u ≤ offsetAt c (c .table .rows) * u = rw e (mul-le-mul-right u (offsets-mono u c g (suc i) (c .table .rows) h (omega arith))) in
       rw (offset-same u s (suc i) h, offset-same u s i (omega arith))
-      (sym (part-same (offsetAt c (c .table .rows) * u) values (c .values) (s .values .front) (a * u) (n * u) (rw add-mul at m)))
+      (sym (part-cong (offsetAt c (c .table .rows) * u) values (c .values) (s .values .front) (a * u) (n * u) (rw add-mul at m)))
 
 -- ---- an index column; y has its description
 

@@ -1,8 +1,7 @@
 -- `bits::slice::copy` meets its contract. By the length class; below 2 bytes there is one or none. Assumes nothing.
-use mathlib.Core.Path.{_≡_}
+use mathlib.Core.Path.{refl}
 use native.Mathlib.Omega.{arith}
-use lib.ListN.{length}
-use Rattle.bits.proofs.Copies.{copied-byte, copied-none}
+use Rattle.bits.proofs.Copies.{copied-byte, copied-all}
 use borrow.Author.Needs.{needs}
 use Rattle.bits.proofs.slice.copy.Statement.{statement}
 use Rattle.bits.proofs.slice.copy.Tie as tie
@@ -54,14 +53,13 @@ same-length-5 c = search needs
 
 returns-5 : tie.Need-returns-5
 returns-5 c =
-    let a = c .before .before .before .before .before .before .before .before .args in
-    copied-byte (a .src .now) (a .dst .now) (c .before .if5 .taken) (omega arith)
+    let f = c .before .before .before .before .before .before .before .before in
+    copied-all 1 (f .args .src .now) (f .args .dst .now) (omega arith) (copied-byte 0 (f .args .src .now) (f .args .dst .now) (omega arith) (f .pre) refl)
 
 returns-6 : tie.Need-returns-6
 returns-6 c =
-    let a = c .before .before .before .before .before .before .before .args in
-    let e : length (a .src .now) ≡ 0 = omega arith in
-    copied-none (a .src .now) (a .dst .now) e
+    let f = c .before .before .before .before .before .before .before in
+    copied-all 0 (f .args .src .now) (f .args .dst .now) (omega arith) refl
 
 pub copy-spec : {M : Type 1} → statement M
 copy-spec =

@@ -1,7 +1,6 @@
 -- `bits::slice::copy_u16s` meets its contract. The number at the front and the number at the end cover the slice. Assumes nothing.
-use mathlib.Core.Path.{refl}
 use native.Mathlib.Omega.{arith}
-use Rattle.bits.proofs.Copies.{copied-end}
+use Rattle.bits.proofs.Copies.{copied-ends}
 use borrow.Author.Needs.{needs}
 use Rattle.bits.proofs.slice.copy_u16s.Statement.{statement}
 use Rattle.bits.proofs.slice.copy_u16s.Tie as tie
@@ -29,8 +28,8 @@ returns c =
     let front = c .before .before .before .before .before .before in
     let read = front .before .before in
     let f = read .before .before .before .before in
-    copied-end 2 0 0 (f .args .src .now) (f .args .dst .now) (read .before .before .before .shared-slice-known .given)
-    (omega arith) (omega arith) (omega (arith, f .pre)) (omega (arith, f .pre)) refl
+    copied-ends 2 (f .args .src .now) (f .args .dst .now) (read .before .before .before .shared-slice-known .given)
+    (omega (arith, f .pre)) (omega (arith, f .pre))
     (read .before .read-u16 .ensures) (read .read-u162 .ensures) (front .write-u16 .ensures) (c .before .before .write-u162 .ensures)
 
 pub copy-u16s-spec : {M : Type 1} → statement M

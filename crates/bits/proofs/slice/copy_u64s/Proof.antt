@@ -1,7 +1,6 @@
 -- `bits::slice::copy_u64s` meets its contract. The number at the front and the number at the end cover the slice. Assumes nothing.
-use mathlib.Core.Path.{refl}
 use native.Mathlib.Omega.{arith}
-use Rattle.bits.proofs.Copies.{copied-end}
+use Rattle.bits.proofs.Copies.{copied-ends}
 use borrow.Author.Needs.{needs}
 use Rattle.bits.proofs.slice.copy_u64s.Statement.{statement}
 use Rattle.bits.proofs.slice.copy_u64s.Tie as tie
@@ -29,8 +28,8 @@ returns c =
     let front = c .before .before .before .before .before .before in
     let read = front .before .before in
     let f = read .before .before .before .before in
-    copied-end 8 0 0 (f .args .src .now) (f .args .dst .now) (read .before .before .before .shared-slice-known .given)
-    (omega arith) (omega arith) (omega (arith, f .pre)) (omega (arith, f .pre)) refl
+    copied-ends 8 (f .args .src .now) (f .args .dst .now) (read .before .before .before .shared-slice-known .given)
+    (omega (arith, f .pre)) (omega (arith, f .pre))
     (read .before .read-u64 .ensures) (read .read-u642 .ensures) (front .write-u64 .ensures) (c .before .before .write-u642 .ensures)
 
 pub copy-u64s-spec : {M : Type 1} → statement M
