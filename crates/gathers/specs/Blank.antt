@@ -35,7 +35,7 @@ valuesWith (Blocks n) c m = overwrite (concat (m .count) (m .bytes)) (c .values)
 valuesWith Bits c m = replaceBits (c .values) (c .table .«data_bit») (m .count) (λ i. isSet (m .bytes i))
 valuesWith (Runs u) c m = concat (m .count) (m .bytes)
 
--- the offsets start at 0
+-- of kinds 3 and 4: the offsets start at 0, and the data is that of the rows, in their order
 abbrev pub offsetsWith : Layout → Column → Rows → List ℕ
 offsetsWith (Blocks n) c m = c .offsets
 offsetsWith Bits c m = c .offsets
@@ -64,5 +64,6 @@ withRows c m = record {
   validity = validityWith (c .validity) (c .table .«validity_bit») (m .count) (m .valid);
 }
 
+-- the paper's blanked table
 unfoldable pub blank : Column → IndexColumn → Column
 blank c x = withRows c (maskRows (rowsOf c) (reached (rowsOf c) x))

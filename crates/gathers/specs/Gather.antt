@@ -88,5 +88,6 @@ gathered v = record { number = 0; place = 0; total = valueLength (v .layout) v; 
 abbrev pub conclude : Answer → Rows → Output → Outcome
 conclude a v o = cond (passes a) (record { answer = gathered v; output = store v o }) (record { answer = a; output = o })
 
+-- the definition that demands 2 and 3 speak of
 unfoldable pub gather : Column → IndexColumn → Output → Outcome
 gather c x o = conclude (firstOf (refusals c x o)) (takeRows (rowsOf c) x) o
