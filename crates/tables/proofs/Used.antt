@@ -42,6 +42,12 @@ module _ (v : List ℕ) (b : ℕ) where
       go false e = refl
 
 module _ (c : Column) where
+  over : validityOverLimit (length (c .validity)) (usedBit (c .validity) (c .table .«validity_bit»)) ≡ validityOverLimit (length (c .validity)) (c .table .«validity_bit»)
+  over = over-used (c .validity) (c .table .«validity_bit»)
+
+  short : validityShort (length (c .validity)) (usedBit (c .validity) (c .table .«validity_bit»)) (c .table .rows) ≡ validityShort (length (c .validity)) (c .table .«validity_bit») (c .table .rows)
+  short = short-used (c .validity) (c .table .«validity_bit») (c .table .rows)
+
   kind-used : (k : Kind) → usedAs k c .table .kind ≡ c .table .kind
   kind-used Primitive = refl
   kind-used Boolean = refl
@@ -67,12 +73,12 @@ module _ (c : Column) where
   lines-used : (k : Kind) (x : IndexColumn)
       → firstOf (formLines k (layoutOf k (usedAs k c .table .width) (usedAs k c .table .size)) (usedAs k c) x) ≡ firstOf (formLines k (layoutOf k (c .table .width) (c .table .size)) c x)
   unfolding offsetAt
-  lines-used Primitive x = rw (over-used (c .validity) (c .table .«validity_bit»), short-used (c .validity) (c .table .«validity_bit») (c .table .rows))
-  lines-used Boolean x = rw (over-used (c .validity) (c .table .«validity_bit»), short-used (c .validity) (c .table .«validity_bit») (c .table .rows))
-  lines-used VariableBytes x = rw (over-used (c .validity) (c .table .«validity_bit»), short-used (c .validity) (c .table .«validity_bit») (c .table .rows))
-  lines-used ListKind x = rw (over-used (c .validity) (c .table .«validity_bit»), short-used (c .validity) (c .table .«validity_bit») (c .table .rows))
-  lines-used FixedSizeList x = rw (over-used (c .validity) (c .table .«validity_bit»), short-used (c .validity) (c .table .«validity_bit») (c .table .rows))
-  lines-used FixedSizeBinary x = rw (over-used (c .validity) (c .table .«validity_bit»), short-used (c .validity) (c .table .«validity_bit») (c .table .rows))
+  lines-used Primitive x = rw (over, short)
+  lines-used Boolean x = rw (over, short)
+  lines-used VariableBytes x = rw (over, short)
+  lines-used ListKind x = rw (over, short)
+  lines-used FixedSizeList x = rw (over, short)
+  lines-used FixedSizeBinary x = rw (over, short)
   lines-used Unknown x = refl
 
   -- the same rows, with the validity read at the used bit offset
