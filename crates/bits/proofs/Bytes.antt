@@ -2,7 +2,7 @@
 use mathlib.Core.Path.{_≡_, refl, sym, ap, _∙_, subst}
 use mathlib.Core.List.{List, [], _∷_, _++_, append-assoc}
 use Prim.Native.Nat.{ℕ, zero, suc, _+_, _-_, _*_, _≤_, _<_}
-use native.Mathlib.Nat.{mul-le-mul-right}
+use native.Mathlib.Nat.{mul-le-mul-right, suc-mul}
 use native.Mathlib.Numerals.{add-one}
 use native.Mathlib.Omega.{arith}
 use lib.ListN.{length, take, drop, set, length-append, length-drop}
@@ -17,11 +17,13 @@ length-part p n s h = length-take-le n (drop p s) (omega (arith, length-drop p s
 pub length-overwrite : (e s : List ℕ) → length e ≤ length s → length (overwrite e s) ≡ length s
 length-overwrite e s h = simp (length-append, length-drop) (omega arith)
 
+-- block i of m blocks of w bytes lies in their bytes
+pub block-inside : (i m w : ℕ) → i < m → i * w + w ≤ m * w
+block-inside i m w h = omega (arith, mul-le-mul-right w h, suc-mul i w)
+
 -- block i of a buffer of blocks
 pub length-block : (s : List ℕ) (rows n : ℕ) → rows * n ≤ length s → (i : ℕ) → i < rows → length (part (i * n) n s) ≡ n
-length-block s rows n fits i h =
-    let m : suc i * n ≤ rows * n = mul-le-mul-right n h in
-    length-part (i * n) n s (omega arith)
+length-block s rows n fits i h = length-part (i * n) n s (omega (arith, block-inside i rows n h))
 
 -- ---- a part that starts at the running total: after a, b is written into the rest
 

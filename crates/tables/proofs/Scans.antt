@@ -3,7 +3,7 @@ use mathlib.Core.Path.{_≡_, refl, sym, _∙_}
 use mathlib.Core.Bool.{Bool, true, false, not, _&&_, _||_}
 use mathlib.Core.List.{List}
 use Prim.Native.Nat.{ℕ, zero, suc, _+_, _-_, _*_, _^_, _≤_, _<_}
-use native.Mathlib.Nat.{add-zero, mul-le-mul-right}
+use native.Mathlib.Nat.{add-zero}
 use native.Mathlib.Numerals.{add-one}
 use native.Mathlib.Omega.{arith}
 use lib.Dec.{eqb, ltb, eqb·suc-zero}
@@ -12,8 +12,9 @@ use borrow.Author.Tests.{ltb-false, le-ltb, lt-leb}
 use Rattle.bits.specs.Sequences.{any, first}
 use Rattle.bits.specs.Numbers.{numberAt, isNegative, isNumberWidth}
 use Rattle.tables.specs.Kinds.{isOffsetWidth}
-use Rattle.tables.specs.Refusals.{maxBytes, isBad, falls}
-use Rattle.tables.specs.Bounds.{Offsets}
+use Rattle.tables.specs.Refusals.{maxBytes, isBad}
+use Rattle.tables.specs.Bounds.{Offsets, falls}
+use Rattle.bits.proofs.Bytes.{block-inside}
 use Rattle.bits.proofs.Tests.{or-true}
 use Rattle.bits.proofs.Sequences.{first-none, any-none, any-add, climb}
 use Rattle.tables.proofs.Bounds.{offset-number-width}
@@ -23,9 +24,7 @@ use Rattle.tables.proofs.Offsets.{wide}
 
 -- offset i can be read
 pub there : {w rows : ℕ} {s : List ℕ} → Offsets w rows s → (i : ℕ) → i ≤ rows → (isNumberWidth w ≡ true) × (i * w + w ≤ length s)
-there {w} {rows} {s} o i h =
-    let m : i * w ≤ rows * w = mul-le-mul-right w h in
-    (offset-number-width w (o .width), omega (arith, o .fits))
+there {w} {rows} o i h = (offset-number-width w (o .width), omega (arith, o .fits, block-inside i (suc rows) w (omega arith)))
 
 -- ---- some offset is below the one before
 

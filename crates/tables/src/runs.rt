@@ -13,8 +13,8 @@ ghost use Rattle.bits.specs.Sequences.{any, first};
 ghost use Rattle.bits.specs.Numbers.{numberAt};
 ghost use Rattle.tables.specs.Columns.{columnAt};
 ghost use Rattle.tables.specs.Answers.{checkedNumbers};
-ghost use Rattle.tables.specs.Refusals.{maxBytes, isBad, falls, offsetsRefusal};
-ghost use Rattle.tables.specs.Bounds.{Offsets, Sized};
+ghost use Rattle.tables.specs.Refusals.{maxBytes, isBad, offsetsRefusal};
+ghost use Rattle.tables.specs.Bounds.{Offsets, Sized, falls};
 
 // Some of the eight offsets after offset i is below the one before.
 fn falls_in_eight(offsets: &[u8], w: usize, rows: usize, i: usize) -> bool

@@ -7,7 +7,7 @@ use native.Mathlib.Omega.{arith}
 use borrow.Author.Tests.{lt-ltb, le-ltb}
 use Rattle.bits.specs.Sequences.{any}
 use Rattle.bits.specs.Numbers.{numberAt}
-use Rattle.tables.specs.Refusals.{falls}
+use Rattle.tables.specs.Bounds.{falls}
 use Rattle.tables.proofs.Scans.{there, falls-found, falls-not, one-test}
 use Rattle.tables.proofs.runs.falls_by.Statement.{statement}
 use Rattle.tables.proofs.runs.falls_by.Tie as tie

@@ -3,8 +3,7 @@ use mathlib.Core.Path.{sym, ap, subst, _∙_}
 use Prim.Native.Nat.{ℕ}
 use Rattle.bits.specs.Sequences.{any}
 use Rattle.bits.specs.Numbers.{numberAt}
-use Rattle.tables.specs.Refusals.{falls}
-use Rattle.tables.specs.Bounds.{Offsets}
+use Rattle.tables.specs.Bounds.{Offsets, falls}
 use Rattle.tables.proofs.Bounds.{offset-width-8}
 use Rattle.tables.proofs.runs.falls_somewhere.Statement.{statement}
 use Rattle.tables.proofs.runs.falls_somewhere.Tie as tie
