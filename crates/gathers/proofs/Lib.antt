@@ -8,6 +8,7 @@ pub mod Blanked
 pub mod Regular
 pub mod ReadBack
 pub mod Nulls
+pub mod Buffers
 pub mod Cases
 pub mod Trials
 pub mod Needed

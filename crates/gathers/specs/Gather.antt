@@ -11,7 +11,7 @@ use Rattle.tables.specs.declared.table.Kind.the-variants.{Primitive, Boolean, V
 use Rattle.tables.specs.declared.table.Layout.{Layout}
 use Rattle.tables.specs.declared.table.Layout.the-variants.{Blocks, Bits, Runs}
 use Rattle.tables.specs.Columns.{Column, IndexColumn, kindAt, layoutAt, indexValid, index}
-use Rattle.tables.specs.Answers.{refuse, passes, Line, line, firstOf}
+use Rattle.tables.specs.Answers.{refuse, passes, _orElse_, Line, line, firstOf}
 use Rattle.tables.specs.Refusals.{formLines}
 use Rattle.tables.specs.Rows.{Rows, rowsOf}
 use Rattle.gathers.specs.Taken.{takeRows}
@@ -49,12 +49,16 @@ overflowLines v =
 
 -- ---- 7: an output buffer too short; place 1 validity, 2 offsets, 3 data; total the bytes that it needs
 
-abbrev pub spaceLines : Rows → Output → List Line
-spaceLines v o =
-    line (ltb (length (o .validity)) (validityLength v)) (refuse 7 1 (validityLength v))
-    ∷ line (ltb (length (o .offsets)) (offsetLength (v .layout) v)) (refuse 7 2 (offsetLength (v .layout) v))
-    ∷ line (ltb (length (o .values)) (valueLength (v .layout) v)) (refuse 7 3 (valueLength (v .layout) v))
+-- of outputs that need so many bytes
+abbrev pub shortOutputs : ℕ → ℕ → ℕ → Output → List Line
+shortOutputs validity offsets values o =
+    line (ltb (length (o .validity)) validity) (refuse 7 1 validity)
+    ∷ line (ltb (length (o .offsets)) offsets) (refuse 7 2 offsets)
+    ∷ line (ltb (length (o .values)) values) (refuse 7 3 values)
     ∷ []
+
+abbrev pub spaceLines : Rows → Output → List Line
+spaceLines v o = shortOutputs (validityLength v) (offsetLength (v .layout) v) (valueLength (v .layout) v) o
 
 -- ---- the stages by themselves
 
@@ -63,6 +67,10 @@ rangeRefusal n x = firstOf (rangeLines n x)
 
 unfoldable pub overflowRefusal : Rows → Answer
 overflowRefusal v = firstOf (overflowLines v)
+
+-- the same, where it lets pass with the data bytes that the rows need as total
+unfoldable pub measured : Rows → Answer
+measured v = overflowRefusal v orElse record { number = 0; place = 0; total = valueLength (v .layout) v; nulls = 0 }
 
 unfoldable pub spaceRefusal : Rows → Output → Answer
 spaceRefusal v o = firstOf (spaceLines v o)

@@ -5,12 +5,20 @@ use Prim.Native.Nat.{ℕ}
 use Rattle.bits.specs.Numbers.{numberAt}
 use Rattle.tables.specs.declared.table.Kind.the-variants.{VariableBytes, List as ListKind}
 use Rattle.tables.specs.declared.table.Layout.the-variants.{Runs}
-use Rattle.tables.specs.Kinds.{kindOf, copiesUnderNull}
+use Rattle.tables.specs.Kinds.{kindOf, layoutOf, copiesUnderNull}
 use Rattle.tables.specs.Columns.{Column, IndexColumn, kindAt, layoutAt, offsetAt}
 use Rattle.tables.specs.Answers.{firstOf}
 use Rattle.tables.specs.Refusals.{badKind, formLines, formRefusal, WellFormed}
 use Rattle.tables.specs.Rows.{rowsBy, rowsOf}
 use Rattle.tables.proofs.Facts.{RunKind, run-kind, Formed, well-formed}
+
+pub kindAt-number : (c : Column) → kindAt c ≡ kindOf (c .table .kind)
+unfolding kindAt
+kindAt-number c = refl
+
+pub layoutAt-kind : (c : Column) → layoutAt c ≡ layoutOf (kindAt c) (c .table .width) (c .table .size)
+unfolding layoutAt
+layoutAt-kind c = refl
 
 pub offsetAt-number : (c : Column) (i : ℕ) → offsetAt c i ≡ numberAt (c .table .«offset_width») (c .offsets) i
 unfolding offsetAt
