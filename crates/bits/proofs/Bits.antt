@@ -25,6 +25,19 @@ pub bit-test : (b : Bool) → eqb (bitValue b) 1 ≡ b
 bit-test true = refl
 bit-test false = refl
 
+-- a bit that was read as a number and compared with 1
+pub bit-read : (b : Bool) {r : ℕ} {t : Bool} → r ≡ bitValue b → eqb r 1 ≡ t → b ≡ t
+bit-read b e h = sym (bit-test b) ∙ rw (sym e) h
+
+-- .. and with 0
+pub bit-unset : (b : Bool) {r : ℕ} → r ≡ bitValue b → r ≡ 0 → b ≡ false
+bit-unset true e z = absurd (omega (arith, e, z))
+bit-unset false e z = refl
+
+pub bit-set : (b : Bool) {r : ℕ} → r ≡ bitValue b → (r ≡ 0 → ⊥) → b ≡ true
+bit-set true e n = refl
+bit-set false e n = absurd (n e)
+
 pub bit-value : (x : ℕ) → bitValue (eqb (x % 2) 1) ≡ x % 2
 bit-value x = go (x % 2) (omega arith)
   where
@@ -61,7 +74,8 @@ weights n g =
     sum-cong n (λ j b. t j) ∙ sum-mul n (λ j. bitValue (g (suc j)) * 2 ^ j) 2 in
     sum-head n (λ j. bitValue (g j) * 2 ^ j) ∙ rw e (omega arith)
 
-weighted-bit : (n : ℕ) (g : ℕ → Bool) (j : ℕ) → j < n → sum n (λ k. bitValue (g k) * 2 ^ k) / 2 ^ j % 2 ≡ bitValue (g j)
+-- bit j of the sum
+pub weighted-bit : (n : ℕ) (g : ℕ → Bool) (j : ℕ) → j < n → sum n (λ k. bitValue (g k) * 2 ^ k) / 2 ^ j % 2 ≡ bitValue (g j)
 weighted-bit zero g j h = absurd (not-suc-le-zero h)
 weighted-bit (suc n) g zero h = rw (weights n g) (omega (arith, bitValue-lt (g 0)))
 weighted-bit (suc n) g (suc j) h =
@@ -88,6 +102,10 @@ bitAt-packBytes n g p h =
 pub length-pack : (n : ℕ) (g : ℕ → Bool) → length (pack n g) ≡ bytesFor n
 unfolding pack
 length-pack n g = length-packBytes (bytesFor n) (λ p. ltb p n && g p)
+
+pub pack-bytes : (n : ℕ) (g : ℕ → Bool) → pack n g ≡ packBytes (bytesFor n) (λ p. ltb p n && g p)
+unfolding pack
+pack-bytes n g = refl
 
 pub bitAt-pack : (n : ℕ) (g : ℕ → Bool) (i : ℕ) → i < n → bitAt (pack n g) i ≡ g i
 unfolding pack

@@ -1,12 +1,13 @@
 -- Laws of parts and of overwritten buffers (specs/Bytes.antt), in the form that loops ask for. Assumes nothing.
 use mathlib.Core.Path.{_≡_, refl, sym, ap, _∙_, subst}
-use mathlib.Core.List.{List, [], _∷_, _++_, append-assoc}
+use mathlib.Core.List.{List, [], _∷_, _++_, append-assoc, append-nil}
 use Prim.Native.Nat.{ℕ, zero, suc, _+_, _-_, _*_, _≤_, _<_}
-use native.Mathlib.Nat.{mul-le-mul-right, suc-mul}
+use native.Mathlib.Nat.{not-suc-le-zero, le-of-suc-le-suc, mul-le-mul-right, suc-mul}
 use native.Mathlib.Numerals.{add-one}
 use native.Mathlib.Omega.{arith}
-use lib.ListN.{length, take, drop, set, length-append, length-drop}
-use lib.Seq.{length-take-le, drop-cons, take-at, drop-at, drop-drop, take-take, take-add, set-append-seam, sets, sets-eq}
+use lib.ListN.{length, take, drop, set, replicate, length-append, length-drop, drop-of-length-le, take-append-drop}
+use lib.Seq.{length-take-le, take-all, drop-cons, take-at, drop-at, drop-drop, take-take, take-add, set-append-seam, sets, sets-eq}
+use borrow.Rule.Slice.PartMut.{midOf, postOf, putMid}
 use Rattle.bits.specs.Bytes.{part, overwrite, overwriteAt}
 
 -- ---- lengths
@@ -81,10 +82,24 @@ part-take (suc p) n (suc m) (b ∷ s) h = part-take p n m s (omega arith)
 pub part-cong : (m : ℕ) (a b : List ℕ) → take m a ≡ take m b → (p n : ℕ) → p + n ≤ m → part p n a ≡ part p n b
 part-cong m a b e p n h = sym (part-take p n m a h) ∙ ap (part p n) e ∙ part-take p n m b h
 
+-- a part of zeros is zeros
+pub take-zeros : (n m : ℕ) → n ≤ m → take {A = ℕ} n (replicate m 0) ≡ replicate n 0
+take-zeros zero m h = refl
+take-zeros (suc n) zero h = absurd (not-suc-le-zero h)
+take-zeros (suc n) (suc m) h = ap (λ (t : List ℕ). 0 ∷ t) (take-zeros n m (le-of-suc-le-suc h))
+
+pub part-zeros : (p n m : ℕ) → p + n ≤ m → part p n (replicate m 0) ≡ replicate n 0
+part-zeros zero n m h = take-zeros n m (omega arith)
+part-zeros (suc p) n zero h = absurd (omega arith)
+part-zeros (suc p) n (suc m) h = part-zeros p n m (omega arith)
+
 -- ---- bytes written at a position
 
 pub overwriteAt-zero : (e s : List ℕ) → overwriteAt 0 e s ≡ overwrite e s
 overwriteAt-zero e s = refl
+
+pub overwriteAt-nothing : (p : ℕ) (s : List ℕ) → overwriteAt p [] s ≡ s
+overwriteAt-nothing p s = take-append-drop p s
 
 pub length-overwriteAt : (p : ℕ) (e s : List ℕ) → p + length e ≤ length s → length (overwriteAt p e s) ≡ length s
 length-overwriteAt p e s h = simp (length-append, length-drop) (omega (arith, length-take-le p s (omega arith)))
@@ -98,6 +113,14 @@ overwriteAt-append p n a b s e h =
     let d : overwriteAt p a s ≡ t ++ r = sym (append-assoc (take p s) a r) in
     rw (d, take-at t r (p + n) l, drop-at t r (p + n) l)
     (append-assoc (take p s) a (overwrite b r) ∙ ap (λ (u : List ℕ). take p s ++ u) (sym (overwrite-step a b (drop p s))))
+
+-- the tail from p on lent to a call that writes e over the front of it
+pub overwriteAt-lent : (p : ℕ) (e s : List ℕ) {y : List ℕ} → y ≡ overwrite e (midOf p (length s - p) s) → putMid p (length s - p) s y ≡ overwriteAt p e s
+overwriteAt-lent p e s h =
+    let n : length (drop p s) ≤ length s - p = omega (arith, length-drop p s) in
+    let whole : midOf p (length s - p) s ≡ drop p s = take-all (length s - p) (drop p s) n in
+    let none : postOf p (length s - p) s ≡ [] = drop-of-length-le (drop p s) n in
+    rw (h, whole, none, append-nil)
 
 -- the bytes e stored from position p on, one after the other: what a straight line of stores makes
 abbrev pub stores : ℕ → List ℕ → List ℕ → List ℕ

@@ -4,7 +4,7 @@ use mathlib.Core.Path.{_≡_, refl, sym, ap, ap₂, _∙_}
 use mathlib.Core.Bool.{Bool, true, false, _&&_}
 use mathlib.Core.List.{List, [], _∷_, _++_}
 use Prim.Native.Nat.{ℕ, zero, suc, _+_, _-_, _*_, _/_, _%_, _^_, _≤_, _<_}
-use native.Mathlib.Nat.{add-zero, add-comm, add-assoc, add-mul-div-right, div-one, div-eq-of-lt, lt-of-lt-of-le, mod-lt, mul-assoc, mul-comm, mul-mod-left, one-mul, pow-succ'}
+use native.Mathlib.Nat.{add-zero, add-comm, add-assoc, add-mul-div-right, div-one, div-eq-of-lt, lt-of-lt-of-le, mod-lt, mul-assoc, mul-comm, mul-mod-left, one-mul, pow-succ', two-pow-succ}
 use native.Mathlib.Numerals.{add-one, one-add}
 use native.Mathlib.Omega.{arith}
 use lib.Arith.{lt-one}
@@ -13,14 +13,14 @@ use lib.Count.{ones, ones-step}
 use lib.Dec.{eqb, ltb}
 use lib.ListN.{length, getD}
 use lib.Pow.{pow-pos, pow-mono, pow-add, shr-lt, shr-shr, shl-exact, shl-shr, high, low, mod-pow-add, field, mod-mod-pow}
-use borrow.Author.Tests.{ltb-true, ltb-false}
+use borrow.Author.Tests.{ltb-true, ltb-false, lt-ltb, le-ltb}
 use Rattle.bits.specs.Sequences.{sum}
 use Rattle.bits.specs.Bytes.{part}
 use Rattle.bits.specs.Numbers.{littleEndian, toLittleEndian}
 use Rattle.bits.specs.Bits.{bitValue, bitAt, setBits, byteOf, packBytes}
-use Rattle.bits.proofs.Sequences.{sum-cong, sum-head, sum-add, sum-le, sum-const}
+use Rattle.bits.proofs.Sequences.{sum-cong, sum-head, sum-add, sum-le, sum-const, getD-tabulate}
 use Rattle.bits.proofs.Numbers.{AllBytes, littleEndian-lt, littleEndian-from, littleEndian-byte, littleEndian-halves, numberFrom, toLittleEndian-halves}
-use Rattle.bits.proofs.Bits.{bitValue-lt, bit-value, packBytes-cong, byteOf-cong}
+use Rattle.bits.proofs.Bits.{bitValue-lt, bit-value, weighted-bit, bitsTo, packBytes-cong, byteOf-cong}
 
 -- bit j of a number
 unfoldable pub bitOf : ℕ → ℕ → Bool
@@ -207,3 +207,39 @@ joined-word q shift y next s b h l e d =
 -- the mask of the bits below left
 pub power-of : (left : ℕ) → left < 8 → (1 * 2 ^ left) % 2 ^ 64 ≡ 2 ^ left
 power-of left h = shl-exact 1 left 64 (omega arith) (omega arith) ∙ one-mul (2 ^ left)
+
+-- ---- ones
+
+-- the sum of the first m powers of 2
+powers : (m : ℕ) → suc (bitsTo m (λ i. true)) ≡ 2 ^ m
+powers zero = refl
+powers (suc m) = omega (arith, powers m, two-pow-succ m)
+
+-- a power of 2, less 1, has ones below the power
+pub bitOf-ones : (m j : ℕ) → bitOf (2 ^ m - 1) j ≡ ltb j m
+unfolding bitOf
+bitOf-ones m j = go (ltb j m) refl
+  where
+    go : (t : Bool) → ltb j m ≡ t → bitOf (2 ^ m - 1) j ≡ t
+    go true e =
+        let s : 2 ^ m - 1 ≡ bitsTo m (λ i. true) = omega (arith, powers m) in
+        rw (s, weighted-bit m (λ i. true) j (ltb-true j m e))
+    go false e = bitOf-small (2 ^ m - 1) j (lt-of-lt-of-le (omega (arith, pow-pos m)) (pow-mono (ltb-false j m e)))
+
+-- the word of n bytes with so many ones, from the lowest bit on
+pub ones-word : (n left : ℕ) → toLittleEndian n ((2 ^ (8 * n) - 1) / 2 ^ (8 * n - left)) ≡ packBytes n (λ t. ltb t left)
+ones-word n left =
+    toLittleEndian-bits n ((2 ^ (8 * n) - 1) / 2 ^ (8 * n - left))
+    ∙ packBytes-cong n (λ t h. bitOf-shift (2 ^ (8 * n) - 1) (8 * n - left) t ∙ bitOf-ones (8 * n) (8 * n - left + t) ∙ go t h (ltb t left) refl)
+  where
+    go : (t : ℕ) → t < 8 * n → (b : Bool) → ltb t left ≡ b → ltb (8 * n - left + t) (8 * n) ≡ b
+    go t h true e = lt-ltb (8 * n - left + t) (8 * n) (omega (arith, ltb-true t left e))
+    go t h false e = le-ltb (8 * n - left + t) (8 * n) (omega (arith, ltb-false t left e))
+
+-- the lowest byte of a word of packed bits
+pub packed-low : (n y : ℕ) (g : ℕ → Bool) → toLittleEndian (suc n) y ≡ packBytes (suc n) g → y % 256 ≡ byteOf g
+unfolding packBytes
+packed-low n y g e =
+    ap (λ (s : List ℕ). getD s 0 0) e
+    ∙ getD-tabulate (suc n) (λ k. byteOf (λ j. g (8 * k + j))) 0 (omega arith)
+    ∙ byteOf-cong (λ j l. ap g (omega arith))

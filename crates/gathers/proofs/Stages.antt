@@ -1,17 +1,22 @@
 -- The gather stage by stage, as code goes: refusals 1 to 4, 5, 6, 7, and the storing. Assumes nothing.
-use mathlib.Core.Path.{_≡_, refl}
-use mathlib.Core.Bool.{true, false}
+use mathlib.Core.Path.{_≡_, refl, ap, _∙_}
+use mathlib.Core.Bool.{Bool, true, false, cond, _&&_, true≢false}
 use mathlib.Core.List.{List, _++_}
-use Prim.Native.Nat.{ℕ}
-use lib.Dec.{ltb}
-use Rattle.tables.specs.Columns.{Column, IndexColumn, kindAt, layoutAt}
-use Rattle.tables.specs.Answers.{passes, _orElse_, firstOf, Line}
+use Prim.Native.Nat.{ℕ, _≤_, _<_}
+use native.Mathlib.Nat.{le-refl}
+use lib.Dec.{leb, ltb}
+use lib.ListN.{length}
+use borrow.Author.Tests.{ltb-false, lt-ltb, le-ltb}
+use Rattle.tables.specs.Columns.{Column, IndexColumn, kindAt, layoutAt, indexValid, index}
+use Rattle.tables.specs.Answers.{refuse, accept, passes, _orElse_, firstOf, Line}
 use Rattle.tables.specs.Refusals.{formLines, formRefusal}
 use Rattle.tables.specs.Rows.{Rows, rowsOf}
+use Rattle.bits.specs.Bytes.{overwrite}
 use Rattle.tables.specs.declared.refusal.Answer.{Answer}
 use Rattle.gathers.specs.Taken.{takeRows}
-use Rattle.gathers.specs.Stored.{Output, store}
-use Rattle.gathers.specs.Gather.{outOfRange, rangeLines, overflowAt, overflowLines, spaceLines, rangeRefusal, overflowRefusal, spaceRefusal, refusals, Outcome, gathered, conclude, gather}
+use Rattle.gathers.specs.Stored.{Output, validityBytes, valueBytes, validityLength, offsetLength, valueLength, nullCount, storeOffsets, store}
+use Rattle.gathers.specs.Gather.{outOfRange, rangeLines, overflowAt, overflowLines, spaceLines, rangeRefusal, overflowRefusal, measured, spaceRefusal, refusals, Outcome, gathered, conclude, gather}
+use Rattle.bits.proofs.Sequences.{first-at, first-none}
 use Rattle.tables.proofs.Lines.{Refusing, firstOf-append, refusing-append, none-met-passes, orElse-passes}
 use Rattle.tables.proofs.Views.{formRefusal-lines}
 
@@ -73,6 +78,21 @@ pub in-range : (n : ℕ) (x : IndexColumn) → passes (rangeRefusal n x) ≡ tru
 unfolding rangeRefusal
 in-range n x e = none-met-passes (rangeLines n x) (refl, tt) e 0
 
+-- the range test, as a scan of the indices decides it: all are passed over, or index j is the first that is not
+module _ (n : ℕ) (x : IndexColumn) where
+  pub range-accepted : ((j : ℕ) → j < x .indices .count → (indexValid x j && leb n (index x j)) ≡ false) → rangeRefusal n x ≡ accept
+  unfolding rangeRefusal outOfRange
+  range-accepted h =
+      let m : ℕ = x .indices .count in
+      rw (first-none m (λ j. indexValid x j && leb n (index x j)) h, le-ltb m m (le-refl m))
+
+  pub range-refused : (j : ℕ) → j < x .indices .count → (indexValid x j && leb n (index x j)) ≡ true
+      → ((k : ℕ) → k < j → (indexValid x k && leb n (index x k)) ≡ false) → rangeRefusal n x ≡ refuse 5 j 0
+  unfolding rangeRefusal outOfRange
+  range-refused j h e none =
+      let m : ℕ = x .indices .count in
+      rw (first-at m (λ k. indexValid x k && leb n (index x k)) j h e none, lt-ltb j m h)
+
 -- past the overflow test no row is an overflow's place
 pub no-overflow : (v : Rows) → passes (overflowRefusal v) ≡ true → ltb (overflowAt (v .layout) v) (v .count) ≡ false
 unfolding overflowRefusal
@@ -96,3 +116,53 @@ all-passed c x o e =
     let q : (passes (f orElse r) ≡ true) × (passes w ≡ true) = orElse-passes (f orElse r) w (p .0) in
     let t : (passes f ≡ true) × (passes r ≡ true) = orElse-passes f r (q .0) in
     record { form = t .0; range = t .1; overflow = q .1; space = p .1 }
+
+-- ---- the stages, as code answers them
+
+pub spaceRefusal-lines : (v : Rows) (o : Output) → spaceRefusal v o ≡ firstOf (spaceLines v o)
+unfolding spaceRefusal
+spaceRefusal-lines v o = refl
+
+-- past the space test each output is long enough
+pub enough : (v : Rows) (o : Output) → passes (spaceRefusal v o) ≡ true
+    → (validityLength v ≤ length (o .validity)) × (offsetLength (v .layout) v ≤ length (o .offsets)) × (valueLength (v .layout) v ≤ length (o .values))
+unfolding spaceRefusal
+enough v o e =
+    let met = none-met-passes (spaceLines v o) (refl, (refl, (refl, tt))) e in (
+      ltb-false (length (o .validity)) (validityLength v) (met 0),
+      ltb-false (length (o .offsets)) (offsetLength (v .layout) v) (met 1),
+      ltb-false (length (o .values)) (valueLength (v .layout) v) (met 2),
+    )
+
+-- the measure refuses where the running total does
+pub measured-refused : (v : Rows) → passes (measured v) ≡ false → (passes (overflowRefusal v) ≡ false) × (measured v ≡ overflowRefusal v)
+unfolding measured
+measured-refused v = go (passes (overflowRefusal v)) refl
+  where
+    go : (t : Bool) → passes (overflowRefusal v) ≡ t
+        → passes (cond t (record { number = 0; place = 0; total = valueLength (v .layout) v; nulls = 0 }) (overflowRefusal v)) ≡ false
+        → (passes (overflowRefusal v) ≡ false) × (cond t (record { number = 0; place = 0; total = valueLength (v .layout) v; nulls = 0 }) (overflowRefusal v) ≡ overflowRefusal v)
+    go true e d = absurd (true≢false d)
+    go false e d = (e, refl)
+
+-- else it tells the data bytes
+pub measured-total : (v : Rows) {n : ℕ} → record { number = 0; place = 0; total = n; nulls = 0 } ≡ measured v
+    → (passes (overflowRefusal v) ≡ true) × (n ≡ valueLength (v .layout) v)
+unfolding measured
+measured-total v {n} = go (passes (overflowRefusal v)) refl
+  where
+    go : (t : Bool) → passes (overflowRefusal v) ≡ t
+        → record { number = 0; place = 0; total = n; nulls = 0 } ≡ cond t (record { number = 0; place = 0; total = valueLength (v .layout) v; nulls = 0 }) (overflowRefusal v)
+        → (passes (overflowRefusal v) ≡ true) × (n ≡ valueLength (v .layout) v)
+    go true e d = (e, ap (λ (a : Answer). a .total) d)
+    go false e d = absurd (true≢false (ap passes d ∙ e))
+
+-- what is written, output by output
+pub stored-by : (v : Rows) (o : Output) {a b c : List ℕ} → a ≡ overwrite (validityBytes v) (o .validity) → b ≡ storeOffsets (v .layout) v (o .offsets)
+    → c ≡ overwrite (valueBytes (v .layout) v) (o .values) → record { validity = a; offsets = b; values = c } ≡ store v o
+unfolding store
+stored-by v o ea eb ec = rw (ea, eb, ec)
+
+pub gathered-by : (v : Rows) {t n : ℕ} → t ≡ valueLength (v .layout) v → n ≡ nullCount v → record { number = 0; place = 0; total = t; nulls = n } ≡ gathered v
+unfolding gathered
+gathered-by v e d = rw (e, d)

@@ -101,7 +101,8 @@ pub stage-passed : (c : Column) (x : IndexColumn) {s : Checked} {a : Answer} →
     → a ≡ formRefusal c x
 stage-passed c x e f d = rw (form-stages c x, sym e, f) d
 
-refusing : (r : Refusal) → passes (refusalNumbers r) ≡ false
+-- a refusal does not pass
+pub refusing : (r : Refusal) → passes (refusalNumbers r) ≡ false
 refusing KindRefusal = refl
 refusing Limit = refl
 refusing Short = refl

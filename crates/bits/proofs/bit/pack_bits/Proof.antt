@@ -7,7 +7,7 @@ use lib.Dec.{ltb}
 use lib.ListN.{length, length-set}
 use Rattle.bits.specs.Bytes.{overwrite}
 use Rattle.bits.specs.Bits.{bitAt, bytesFor, packBytes}
-use Rattle.bits.proofs.Packing.{packed-word, packed-byte, packed-again, packed-end}
+use Rattle.bits.proofs.Packing.{bytes-none, packed-word, packed-byte, packed-again, packed-end}
 use borrow.Author.Needs.{needs}
 use Rattle.bits.proofs.bit.pack_bits.Statement.{statement}
 use Rattle.bits.proofs.bit.pack_bits.Tie as tie
@@ -27,8 +27,7 @@ abbrev μ-loop2 : tie.MeasureT-loop2
 μ-loop2 src bit-offset n out₀ q shift k₀ out k = bytesFor n - k
 
 loop-holds : tie.Need-loop-holds Inv-loop μ-loop Inv-loop2 μ-loop2
-unfolding packBytes
-loop-holds c = (omega arith, refl, refl)
+loop-holds c = (omega arith, bytes-none _ _, refl)
 
 mul-loop : tie.Need-mul-loop Inv-loop μ-loop Inv-loop2 μ-loop2
 mul-loop c = search needs
