@@ -1,0 +1,4 @@
+pub mod Range
+pub mod Reading
+pub mod Validity
+pub mod Ones

@@ -1,0 +1,112 @@
+// The validity of the taken rows, and how many of them are null: Rust's `take_nulls`. What the rows and the indices have of validity is tested
+// once, outside all loops; null rows are counted by the ones in whole bytes.
+use crate::bit::take_bits;
+use bits::bit::count_set_bits;
+use bits::bit::pack_bits;
+use bits::number::low;
+use bits::number::write_u64;
+use tables::table::Indices;
+ghost use mathlib.Core.Path.{_≡_};
+ghost use mathlib.Core.Bool.{true, false, not};
+ghost use Prim.Native.Nat.{_^_, _≤_, _<_};
+ghost use lib.Dec.{ltb};
+ghost use lib.ListN.{length};
+ghost use Rattle.bits.specs.Sequences.{sum};
+ghost use Rattle.bits.specs.Bits.{bitValue, bytesFor, packBytes, pack, isAbsent};
+ghost use Rattle.bits.specs.Bytes.{overwrite};
+ghost use Rattle.bits.specs.Numbers.{toLittleEndian};
+ghost use Rattle.tables.specs.Columns.{indexColumnAt};
+ghost use Rattle.tables.specs.Answers.{passes};
+ghost use Rattle.tables.specs.Refusals.{indexRefusal};
+ghost use Rattle.gathers.specs.Buffers.{takenBitValid};
+ghost use Rattle.selection.specs.Reach.{Reaches};
+
+// The word whose lowest bits are ones, as many as are left.
+fn ones(left: usize) -> u64
+    requires { ⌜ 0 < left ⌝ }
+    ensures { λ r. ⌜ toLittleEndian 8 r ≡ packBytes 8 (λ t. ltb t left) ⌝ }
+{
+    let all: u64 = 18_446_744_073_709_551_615;
+    if 64 <= left {
+        return all;
+    }
+    all >> (64 - left)
+}
+
+// Sets the first n bits of out, and clears the spare bits of their last byte: eight bytes a turn, then single bytes.
+// A turn's word depends on what is left: the store of a constant would compile to a call of the C library's `memset`.
+fn set_bits(n: usize, out: &mut [u8])
+    requires { ⌜ (n < 2 ^ 60) × (bytesFor n ≤ length (now out)) ⌝ }
+    ensures { λ _. ⌜ now (out .exit) ≡ overwrite (pack n (λ i. true)) (now (out .entry)) ⌝ }
+{
+    let bytes = (n + 7) / 8;
+    let mut k = 0;
+    while 8 <= bytes - k {
+        write_u64(out, k, ones(n - 8 * k));
+        k += 8;
+    }
+    while k < bytes {
+        out[k] = low(ones(n - 8 * k));
+        k += 1;
+    }
+}
+
+// Writes the validity of the taken rows.
+fn take_validity(
+    validity: &[u8],
+    bit_offset: usize,
+    indices: Indices,
+    index_data: &[u8],
+    index_validity: &[u8],
+    out: &mut [u8],
+)
+    requires { ⌜ passes (indexRefusal (indexColumnAt indices «index_data» «index_validity»)) ≡ true ⌝ }
+    requires { ⌜ (isAbsent (now validity) ≡ false → Reaches «bit_offset» (now validity) (indexColumnAt indices «index_data» «index_validity»)) ⌝ }
+    requires { ⌜ bytesFor (indices .count) ≤ length (now out) ⌝ }
+    ensures { λ _. ⌜ now (out .exit) ≡ overwrite (pack (indices .count) (takenBitValid (now (validity .entry)) «bit_offset» (indexColumnAt indices («index_data» .entry) («index_validity» .entry)))) (now (out .entry)) ⌝ }
+{
+    if validity.len() != 0 {
+        take_bits(
+            validity,
+            bit_offset,
+            indices,
+            index_data,
+            index_validity,
+            out,
+        );
+        return;
+    }
+    let count = indices.count as usize;
+    if index_validity.len() != 0 {
+        pack_bits(index_validity, indices.validity_bit as usize, count, out);
+        return;
+    }
+    set_bits(count, out);
+}
+
+// Writes the validity of the taken rows, and counts the null ones.
+pub fn take_nulls(
+    validity: &[u8],
+    bit_offset: usize,
+    indices: Indices,
+    index_data: &[u8],
+    index_validity: &[u8],
+    out: &mut [u8],
+) -> u64
+    requires { ⌜ passes (indexRefusal (indexColumnAt indices «index_data» «index_validity»)) ≡ true ⌝ }
+    requires { ⌜ (isAbsent (now validity) ≡ false → Reaches «bit_offset» (now validity) (indexColumnAt indices «index_data» «index_validity»)) ⌝ }
+    requires { ⌜ bytesFor (indices .count) ≤ length (now out) ⌝ }
+    ensures { λ r. ⌜ r ≡ sum (indices .count) (λ j. bitValue (not (takenBitValid (now (validity .entry)) «bit_offset» (indexColumnAt indices («index_data» .entry) («index_validity» .entry)) j))) ⌝ }
+    ensures { λ _. ⌜ now (out .exit) ≡ overwrite (pack (indices .count) (takenBitValid (now (validity .entry)) «bit_offset» (indexColumnAt indices («index_data» .entry) («index_validity» .entry)))) (now (out .entry)) ⌝ }
+{
+    take_validity(
+        validity,
+        bit_offset,
+        indices,
+        index_data,
+        index_validity,
+        out,
+    );
+    let count = indices.count as usize;
+    indices.count - count_set_bits(out, (count + 7) / 8)
+}
