@@ -1,0 +1,113 @@
+// The taken values of the columns of fixed width. Those whose rows are blocks of bytes differ in what a null index copies.
+use crate::dispatch::take_blocks;
+use selection::bit::take_bits;
+use tables::table::Indices;
+ghost use mathlib.Core.Path.{_≡_};
+ghost use mathlib.Core.Bool.{true, false};
+ghost use Prim.Native.Nat.{_*_, _≤_};
+ghost use lib.ListN.{length};
+ghost use Rattle.bits.specs.Sequences.{concat};
+ghost use Rattle.bits.specs.Bytes.{overwrite};
+ghost use Rattle.bits.specs.Bits.{bytesFor, pack};
+ghost use Rattle.tables.specs.declared.table.Kind.the-variants.{FixedSizeBinary};
+ghost use Rattle.tables.specs.Kinds.{copiesUnderNull};
+ghost use Rattle.tables.specs.Columns.{indexColumnAt};
+ghost use Rattle.tables.specs.Answers.{passes};
+ghost use Rattle.tables.specs.Refusals.{indexRefusal};
+ghost use Rattle.gathers.specs.Buffers.{takenBit, takenBlock};
+ghost use Rattle.selection.specs.Reach.{Reaches};
+ghost use Rattle.fixed.specs.Blocked.{Blocked};
+
+// Rust's `take_native`: rows of `width` bytes; the number under a null index is read too.
+pub fn take_native(
+    values: &[u8],
+    width: usize,
+    rows: usize,
+    indices: Indices,
+    index_data: &[u8],
+    index_validity: &[u8],
+    out: &mut [u8],
+)
+    requires { ⌜ Blocked width rows (indexColumnAt indices «index_data» «index_validity») (now values) (now out) ⌝ }
+    ensures { λ _. ⌜ now (out .exit) ≡ overwrite (concat (indices .count) (takenBlock true rows width (now (values .entry)) (indexColumnAt indices («index_data» .entry) («index_validity» .entry)))) (now (out .entry)) ⌝ }
+{
+    take_blocks(
+        values,
+        width,
+        rows,
+        true,
+        indices,
+        index_data,
+        index_validity,
+        out,
+    );
+}
+
+// Rust's `take_fixed_size_binary`: rows of `size` bytes; the number under a null index is read at sizes 1, 2, 4, 8 and 16 alone.
+pub fn take_fixed_size_binary(
+    values: &[u8],
+    size: usize,
+    rows: usize,
+    indices: Indices,
+    index_data: &[u8],
+    index_validity: &[u8],
+    out: &mut [u8],
+)
+    requires { ⌜ Blocked size rows (indexColumnAt indices «index_data» «index_validity») (now values) (now out) ⌝ }
+    ensures { λ _. ⌜ now (out .exit) ≡ overwrite (concat (indices .count) (takenBlock (copiesUnderNull FixedSizeBinary size) rows size (now (values .entry)) (indexColumnAt indices («index_data» .entry) («index_validity» .entry)))) (now (out .entry)) ⌝ }
+{
+    let under_null = (size == 1) | (size == 2) | (size == 4) | (size == 8) | (size == 16);
+    take_blocks(
+        values,
+        size,
+        rows,
+        under_null,
+        indices,
+        index_data,
+        index_validity,
+        out,
+    );
+}
+
+// Rust's `take_fixed_size_list_primitive`: rows of `size` child elements of `width` bytes; under a null index zeros.
+pub fn take_fixed_size_list_primitive(
+    values: &[u8],
+    size: usize,
+    width: usize,
+    rows: usize,
+    indices: Indices,
+    index_data: &[u8],
+    index_validity: &[u8],
+    out: &mut [u8],
+)
+    requires { ⌜ Blocked (size * width) rows (indexColumnAt indices «index_data» «index_validity») (now values) (now out) ⌝ }
+    ensures { λ _. ⌜ now (out .exit) ≡ overwrite (concat (indices .count) (takenBlock false rows (size * width) (now (values .entry)) (indexColumnAt indices («index_data» .entry) («index_validity» .entry)))) (now (out .entry)) ⌝ }
+{
+    take_blocks(
+        values,
+        size * width,
+        rows,
+        false,
+        indices,
+        index_data,
+        index_validity,
+        out,
+    );
+}
+
+// Rust's `take_boolean`: rows of one bit, the first at bit_offset; under a null index 0.
+pub fn take_boolean(
+    values: &[u8],
+    bit_offset: usize,
+    indices: Indices,
+    index_data: &[u8],
+    index_validity: &[u8],
+    out: &mut [u8],
+)
+    requires { ⌜ passes (indexRefusal (indexColumnAt indices «index_data» «index_validity»)) ≡ true ⌝ }
+    requires { ⌜ Reaches «bit_offset» (now values) (indexColumnAt indices «index_data» «index_validity») ⌝ }
+    requires { ⌜ bytesFor (indices .count) ≤ length (now out) ⌝ }
+    ensures { λ _. ⌜ now (out .exit) ≡ overwrite (pack (indices .count) (takenBit (now (values .entry)) «bit_offset» (indexColumnAt indices («index_data» .entry) («index_validity» .entry)))) (now (out .entry)) ⌝ }
+{
+    take_bits(values, bit_offset, indices, index_data, index_validity, out);
+}
