@@ -1,0 +1,20 @@
+-- The row that an output row has, and what the routines of this crate ask of each other.
+use Prim.Native.Nat.{ℕ}
+use mathlib.Core.Path.{_≡_}
+use mathlib.Core.Bool.{Bool, true, false}
+use Rattle.tables.specs.declared.table.Layout.the-variants.{Runs}
+use Rattle.tables.specs.Columns.{Column, IndexColumn, layoutAt}
+use Rattle.gathers.specs.Ready.{Ready}
+use Rattle.variable.specs.declared.row.Named.{Named}
+use Rattle.variable.specs.declared.row.Named.the-variants.{Row, Null}
+
+-- the row of number n, for an output row that is valid
+abbrev pub named : Bool → ℕ → Named
+named true n = Row n
+named false n = Null
+
+-- a column of runs and an index column that pass refusals 1 to 5, whatever the bytes of an entry
+pub record RunsReady (c : Column) (x : IndexColumn) : Type 0 where
+  pub ready : Ready c x
+  pub unit : ℕ
+  pub layout : layoutAt c ≡ Runs unit

@@ -1,0 +1,133 @@
+// The size of the data output, with refusal 6: the running total of the entries may pass no offset of 4 bytes. Offsets of 8 bytes hold every
+// total.
+use crate::row::taken_entries;
+use tables::refusal::Refusal;
+use tables::table::Indices;
+use tables::table::Kind;
+use tables::table::Table;
+use tables::table::kind_of;
+ghost use mathlib.Core.Path.{_≡_};
+ghost use Rattle.tables.specs.declared.table.Layout.the-variants.{Runs};
+ghost use Rattle.tables.specs.Columns.{columnAt, indexColumnAt, layoutAt};
+ghost use Rattle.tables.specs.Rows.{rowsOf};
+ghost use Rattle.gathers.specs.Taken.{takeRows};
+ghost use Rattle.gathers.specs.Gather.{overflowTotal, measured};
+ghost use Rattle.gathers.specs.Ready.{Ready};
+ghost use Rattle.variable.specs.Runs.{RunsReady};
+ghost use Rattle.variable.specs.Measured.{measuredNumbers, largestOffset, CountedAll};
+
+// How many bytes the rows need, or why they cannot be gathered.
+pub enum Measured {
+    Bytes(u64),
+    Unfit(Refusal),
+}
+
+// An output row, or their count, and the running total before and after it, in entries.
+struct Counted {
+    place: u64,
+    before: u64,
+    after: u64,
+}
+
+fn largest_offset(w: u64) -> u64
+    ensures { λ r. ⌜ r ≡ largestOffset w ⌝ }
+{
+    if w == 4 {
+        return 2_147_483_647;
+    }
+    18_446_744_073_709_551_615
+}
+
+// Counts up to the first output row after which the total is above the largest offset.
+fn count_entries(
+    table: Table,
+    data: &[u8],
+    offsets: &[u8],
+    validity: &[u8],
+    indices: Indices,
+    index_data: &[u8],
+    index_validity: &[u8],
+) -> Counted
+    requires { ⌜ RunsReady (columnAt table «data» offsets validity) (indexColumnAt indices «index_data» «index_validity») ⌝ }
+    ensures { λ r. ⌜ CountedAll (columnAt table («data» .entry) (offsets .entry) (validity .entry)) (indexColumnAt indices («index_data» .entry) («index_validity» .entry)) r ⌝ }
+{
+    let most = largest_offset(table.offset_width);
+    let count = indices.count as usize;
+    let mut total: u64 = 0;
+    let mut j: usize = 0;
+    while j < count {
+        let after = total
+            + taken_entries(
+                table,
+                data,
+                offsets,
+                validity,
+                indices,
+                index_data,
+                index_validity,
+                j,
+            );
+        if after > most {
+            return Counted {
+                place: j as u64,
+                before: total,
+                after,
+            };
+        }
+        total = after;
+        j += 1;
+    }
+    Counted {
+        place: j as u64,
+        before: total,
+        after: total,
+    }
+}
+
+// What refusal 6 carries: of variable bytes the new total, of lists the total before it.
+fn overflow_total(kind: Kind, new: u64, old: u64) -> u64
+    ensures { λ r. ⌜ r ≡ overflowTotal kind new old ⌝ }
+{
+    match kind {
+        Kind::Primitive => 0,
+        Kind::Boolean => 0,
+        Kind::VariableBytes => new,
+        Kind::List => old,
+        Kind::FixedSizeList => 0,
+        Kind::FixedSizeBinary => 0,
+        Kind::Unknown => 0,
+    }
+}
+
+// The data bytes that the gathered rows need, or refusal 6. An entry has `unit` bytes.
+pub fn measure_runs(
+    table: Table,
+    data: &[u8],
+    offsets: &[u8],
+    validity: &[u8],
+    indices: Indices,
+    index_data: &[u8],
+    index_validity: &[u8],
+    unit: u64,
+) -> Measured
+    requires { ⌜ Ready (columnAt table «data» offsets validity) (indexColumnAt indices «index_data» «index_validity») ⌝ }
+    requires { ⌜ layoutAt (columnAt table «data» offsets validity) ≡ Runs unit ⌝ }
+    ensures { λ r. ⌜ measuredNumbers r ≡ measured (takeRows (rowsOf (columnAt table («data» .entry) (offsets .entry) (validity .entry))) (indexColumnAt indices («index_data» .entry) («index_validity» .entry))) ⌝ }
+{
+    let counted = count_entries(
+        table,
+        data,
+        offsets,
+        validity,
+        indices,
+        index_data,
+        index_validity,
+    );
+    let place = counted.place;
+    let old = counted.before;
+    if place < indices.count {
+        let total = overflow_total(kind_of(table.kind), counted.after, old);
+        return Measured::Unfit(Refusal::Overflow { place, total });
+    }
+    Measured::Bytes(old * unit)
+}
