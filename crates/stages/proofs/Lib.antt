@@ -1,0 +1,2 @@
+pub mod Spaces
+pub mod Routines

@@ -1,0 +1,139 @@
+-- What a column and an index column that passed refusals 1 to 5 give to the routine of each kind, and what the routine then has written. Assumes nothing.
+use mathlib.Core.Path.{_≡_, sym, _∙_}
+use mathlib.Core.Bool.{Bool, true, false, not, _&&_, true≢false}
+use mathlib.Core.List.{List}
+use Prim.Native.Nat.{ℕ, _+_, _*_, _≤_, _<_}
+use native.Mathlib.Nat.{mul-le-mul}
+use native.Mathlib.Omega.{arith}
+use lib.Dec.{ltb}
+use lib.ListN.{length}
+use borrow.Author.Tests.{ltb-false}
+use Rattle.bits.specs.Sequences.{concat, sum}
+use Rattle.bits.specs.Bytes.{overwrite}
+use Rattle.bits.specs.Bits.{bitValue, bytesFor, pack, isAbsent}
+use Rattle.tables.specs.declared.table.Kind.{Kind}
+use Rattle.tables.specs.declared.table.Kind.the-variants.{Unknown}
+use Rattle.tables.specs.declared.table.Layout.the-variants.{Blocks, Bits, Runs}
+use Rattle.tables.specs.Kinds.{kindOf, layoutOf, copiesUnderNull}
+use Rattle.tables.specs.Columns.{Column, IndexColumn, kindAt, layoutAt, indexValid, index}
+use Rattle.tables.specs.Refusals.{maxRows, maxBytes, maxBit, WellFormed}
+use Rattle.tables.specs.Bounds.{maxBlock, RowFits, Bounds}
+use Rattle.tables.specs.Rows.{Rows, rowsOf}
+use Rattle.gathers.specs.Taken.{takeRows}
+use Rattle.gathers.specs.Stored.{validityBytes, offsetBytes, valueBytes, valueLength, nullCount, storeOffsets}
+use Rattle.gathers.specs.Ready.{Ready}
+use Rattle.gathers.specs.Buffers.{takenBit, takenBitValid, takenBlock}
+use Rattle.selection.specs.Reach.{Reaches}
+use Rattle.fixed.specs.Blocked.{Blocked}
+use Rattle.bits.proofs.Tests.{or-false}
+use Rattle.tables.proofs.Bounds.{fits-at}
+use Rattle.tables.proofs.Facts.{Formed, formed, IndexFormed, index-formed}
+use Rattle.tables.proofs.Stages.{sized-row-fits, sized-bounds, well-formed-sized}
+use Rattle.tables.proofs.There.{row-valid-there}
+use Rattle.tables.proofs.Views.{kindAt-number, layoutAt-kind}
+use Rattle.gathers.proofs.Buffers.{valid-below, validity-by-buffer, nulls-by-buffer, blocks-by-buffer, bits-by-buffer}
+use Rattle.gathers.proofs.Lengths.{blocks-length, bits-length, offsets-of-blocks, offsets-of-bits, offsets-of-runs}
+
+-- the kind and the layout, as the code finds them
+module _ (c : Column) where
+  pub kind-told : {k m : Kind} → k ≡ kindOf (c .table .kind) → k ≡ m → kindAt c ≡ m
+  kind-told e d = kindAt-number c ∙ sym e ∙ d
+
+  pub layout-by : {k : Kind} → kindAt c ≡ k → layoutAt c ≡ layoutOf k (c .table .width) (c .table .size)
+  layout-by e = rw (layoutAt-kind c, e)
+
+  pub under-null-by : {k : Kind} → kindAt c ≡ k → copiesUnderNull (kindAt c) (c .table .size) ≡ copiesUnderNull k (c .table .size)
+  under-null-by e = rw e
+
+  pub known : WellFormed c → kindAt c ≡ Unknown → ⊥
+  known w e = true≢false (rw e at (formed c w .goodKind))
+
+module _ (c : Column) (x : IndexColumn) (r : Ready c x) where
+  pub ready-row-fits : {k : Kind} → k ≡ kindOf (c .table .kind) → RowFits k (c .table)
+  ready-row-fits = sized-row-fits c (well-formed-sized c (r .column))
+
+  ready-bounds : Bounds (layoutAt c) (c .table)
+  ready-bounds = sized-bounds c (well-formed-sized c (r .column))
+
+  ready-indices : IndexFormed x
+  ready-indices = index-formed x (r .indices .passed)
+
+  pub ready-count : x .indices .count ≤ maxRows
+  ready-count = ready-indices .count
+
+  ready-block : (n : ℕ) → layoutAt c ≡ Blocks n → n ≤ maxBlock
+  ready-block n e = fits-at ready-bounds e
+
+  -- the products and sums that the measure makes
+  pub ready-bytes : (n : ℕ) → layoutAt c ≡ Blocks n → x .indices .count * n ≤ maxRows * maxBlock
+  ready-bytes n e = mul-le-mul ready-count (ready-block n e)
+
+  -- the taken rows
+  abbrev v : Rows
+  v = takeRows (rowsOf c) x
+
+  abbrev facts : Formed (kindAt c) (layoutAt c) c
+  facts = formed c (r .column)
+
+  below : (j : ℕ) → j < x .indices .count → indexValid x j ≡ true → index x j < c .table .rows
+  below = valid-below (c .table .rows) x (r .indices)
+
+  -- ---- validity
+
+  pub validity-reached : isAbsent (c .validity) ≡ false → Reaches (c .table .«validity_bit») (c .validity) x
+  validity-reached present = record {
+    small =
+        ltb-false maxBytes (length (c .validity))
+        (or-false (ltb maxBytes (length (c .validity))) (not (isAbsent (c .validity)) && ltb maxBit (c .table .«validity_bit»)) (facts .validityLimit) .0);
+    inside = λ j h e. row-valid-there c facts (index x j) (below j h e) present .0;
+  }
+
+  pub validity-stored : (s : List ℕ) {t : List ℕ} → t ≡ overwrite (pack (x .indices .count) (takenBitValid (c .validity) (c .table .«validity_bit») x)) s
+      → t ≡ overwrite (validityBytes v) s
+  validity-stored s h = rw (validity-by-buffer c x) h
+
+  pub nulls-counted : {n : ℕ} → n ≡ sum (x .indices .count) (λ j. bitValue (not (takenBitValid (c .validity) (c .table .«validity_bit») x j))) → n ≡ nullCount v
+  nulls-counted h = h ∙ sym (nulls-by-buffer c x)
+
+  -- ---- blocks
+
+  module _ (n : ℕ) (e : layoutAt c ≡ Blocks n) where
+    pub blocked : {out : List ℕ} → valueLength (layoutAt c) v ≤ length out → Blocked n (c .table .rows) x (c .values) out
+    blocked room = record {
+      indices = r .indices;
+      size = ready-block n e;
+      few = facts .rows;
+      there = ltb-false (length (c .values)) (c .table .rows * n) (rw e at (facts .valuesFit));
+      room = rw (blocks-length c x n e) at room;
+    }
+
+    pub blocks-stored : (underNull : Bool) (s : List ℕ) {d : List ℕ} → copiesUnderNull (kindAt c) (c .table .size) ≡ underNull
+        → d ≡ overwrite (concat (x .indices .count) (takenBlock underNull (c .table .rows) n (c .values) x)) s → d ≡ overwrite (valueBytes (layoutAt c) v) s
+    blocks-stored underNull s k h = rw (blocks-by-buffer c x n e, k) h
+
+    pub blocks-keep : (s : List ℕ) → s ≡ storeOffsets (layoutAt c) v s
+    blocks-keep s = sym (offsets-of-blocks c x n s e)
+
+  -- ---- bits
+
+  module _ (e : layoutAt c ≡ Bits) where
+    pub data-reached : Reaches (c .table .«data_bit») (c .values) x
+    data-reached =
+        let fits : bytesFor (c .table .«data_bit» + c .table .rows) ≤ length (c .values) =
+        ltb-false (length (c .values)) (bytesFor (c .table .«data_bit» + c .table .rows)) (rw e at (facts .valuesFit)) in
+        record { small = facts .values; inside = λ j h i. let l : index x j < c .table .rows = below j h i in omega arith }
+
+    pub bits-room : {room : ℕ} → valueLength (layoutAt c) v ≤ room → bytesFor (x .indices .count) ≤ room
+    bits-room room = rw (bits-length c x e) at room
+
+    pub bits-stored : (s : List ℕ) {d : List ℕ} → copiesUnderNull (kindAt c) (c .table .size) ≡ false
+        → d ≡ overwrite (pack (x .indices .count) (takenBit (c .values) (c .table .«data_bit») x)) s → d ≡ overwrite (valueBytes (layoutAt c) v) s
+    bits-stored s k h = rw (bits-by-buffer c x e k) h
+
+    pub bits-keep : (s : List ℕ) → s ≡ storeOffsets (layoutAt c) v s
+    bits-keep s = sym (offsets-of-bits c x s e)
+
+  -- ---- runs
+
+  pub runs-stored : (u : ℕ) (s : List ℕ) {t : List ℕ} → layoutAt c ≡ Runs u → t ≡ overwrite (offsetBytes v) s → t ≡ storeOffsets (layoutAt c) v s
+  runs-stored u s e h = h ∙ sym (offsets-of-runs c x u s e)

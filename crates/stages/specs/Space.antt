@@ -1,0 +1,38 @@
+-- Refusal 7 by the lengths of the outputs: the bytes that they need and the bytes that are lent.
+use Prim.Native.Nat.{ℕ, suc, _*_}
+use mathlib.Core.List.{[], _∷_}
+use lib.ListN.{length}
+use Rattle.bits.specs.Bits.{bytesFor}
+use Rattle.tables.specs.declared.refusal.Answer.{Answer}
+use Rattle.tables.specs.declared.table.Layout.{Layout}
+use Rattle.tables.specs.declared.table.Layout.the-variants.{Blocks, Bits, Runs}
+use Rattle.tables.specs.Answers.{firstOf}
+use Rattle.tables.specs.Rows.{Rows}
+use Rattle.gathers.specs.Stored.{Output, validityLength, offsetLength, valueLength}
+use Rattle.gathers.specs.Gather.{spaceLine}
+use Rattle.stages.specs.declared.space.Lengths.{Lengths}
+
+-- the offsets of count rows, of w bytes each
+abbrev pub offsetBytesFor : Layout → ℕ → ℕ → ℕ
+offsetBytesFor (Blocks n) w count = 0
+offsetBytesFor Bits w count = 0
+offsetBytesFor (Runs u) w count = suc count * w
+
+abbrev pub lengthsFor : Layout → ℕ → ℕ → ℕ → Lengths
+lengthsFor l w count values = record { validity = bytesFor count; offsets = offsetBytesFor l w count; values = values }
+
+-- the first output that is shorter than it needs to be
+unfoldable pub lengthsRefusal : Lengths → Lengths → Answer
+lengthsRefusal needed lent =
+    firstOf
+    (spaceLine 1 (needed .validity) (lent .validity)
+    ∷ spaceLine 2 (needed .offsets) (lent .offsets)
+    ∷ spaceLine 3 (needed .values) (lent .values)
+    ∷ [])
+
+-- the lengths of lent outputs, and what rows need
+abbrev pub lentLengths : Output → Lengths
+lentLengths o = record { validity = length (o .validity); offsets = length (o .offsets); values = length (o .values) }
+
+abbrev pub rowLengths : Rows → Lengths
+rowLengths v = record { validity = validityLength v; offsets = offsetLength (v .layout) v; values = valueLength (v .layout) v }

@@ -1,0 +1,45 @@
+// The size of the data output of every kind, with refusal 6. Only runs have a running total that can pass their offsets.
+use tables::table::Indices;
+use tables::table::Layout;
+use tables::table::Table;
+use tables::table::kind_of;
+use tables::table::layout_of;
+use variable::total::Measured;
+use variable::total::measure_runs;
+ghost use mathlib.Core.Path.{_≡_};
+ghost use Rattle.tables.specs.Columns.{columnAt, indexColumnAt};
+ghost use Rattle.tables.specs.Rows.{rowsOf};
+ghost use Rattle.gathers.specs.Taken.{takeRows};
+ghost use Rattle.gathers.specs.Gather.{measured};
+ghost use Rattle.gathers.specs.Ready.{Ready};
+ghost use Rattle.variable.specs.Measured.{measuredNumbers};
+
+pub fn measure(
+    table: Table,
+    data: &[u8],
+    offsets: &[u8],
+    validity: &[u8],
+    indices: Indices,
+    index_data: &[u8],
+    index_validity: &[u8],
+) -> Measured
+    requires { ⌜ Ready (columnAt table «data» offsets validity) (indexColumnAt indices «index_data» «index_validity») ⌝ }
+    ensures { λ r. ⌜ measuredNumbers r ≡ measured (takeRows (rowsOf (columnAt table («data» .entry) (offsets .entry) (validity .entry))) (indexColumnAt indices («index_data» .entry) («index_validity» .entry))) ⌝ }
+{
+    let kind = kind_of(table.kind);
+    let layout = layout_of(kind, table);
+    match layout {
+        Layout::Blocks(n) => Measured::Bytes(indices.count * n),
+        Layout::Bits => Measured::Bytes((indices.count + 7) / 8),
+        Layout::Runs(unit) => measure_runs(
+            table,
+            data,
+            offsets,
+            validity,
+            indices,
+            index_data,
+            index_validity,
+            unit,
+        ),
+    }
+}

@@ -1,0 +1,112 @@
+// The offsets and the data of the taken rows, by the kind. What a kind does not write is kept.
+use fixed::take::take_boolean;
+use fixed::take::take_fixed_size_binary;
+use fixed::take::take_fixed_size_list_primitive;
+use fixed::take::take_native;
+use tables::table::Indices;
+use tables::table::Kind;
+use tables::table::Table;
+use tables::table::kind_of;
+use variable::run::take_bytes;
+use variable::run::take_list;
+ghost use mathlib.Core.Path.{_≡_};
+ghost use Prim.Native.Nat.{_≤_};
+ghost use lib.ListN.{length};
+ghost use Rattle.bits.specs.Bytes.{overwrite};
+ghost use Rattle.tables.specs.Columns.{columnAt, indexColumnAt, layoutAt};
+ghost use Rattle.tables.specs.Rows.{rowsOf};
+ghost use Rattle.gathers.specs.Taken.{takeRows};
+ghost use Rattle.gathers.specs.Stored.{offsetLength, valueBytes, valueLength, storeOffsets};
+ghost use Rattle.gathers.specs.Ready.{Ready};
+
+pub fn take_values(
+    table: Table,
+    data: &[u8],
+    offsets: &[u8],
+    validity: &[u8],
+    indices: Indices,
+    index_data: &[u8],
+    index_validity: &[u8],
+    out_offsets: &mut [u8],
+    out_data: &mut [u8],
+)
+    requires { ⌜ Ready (columnAt table «data» offsets validity) (indexColumnAt indices «index_data» «index_validity») ⌝ }
+    requires { ⌜ (offsetLength (layoutAt (columnAt table «data» offsets validity)) (takeRows (rowsOf (columnAt table «data» offsets validity)) (indexColumnAt indices «index_data» «index_validity»)) ≤ length (now «out_offsets»))
+        × (valueLength (layoutAt (columnAt table «data» offsets validity)) (takeRows (rowsOf (columnAt table «data» offsets validity)) (indexColumnAt indices «index_data» «index_validity»)) ≤ length (now «out_data»)) ⌝ }
+    ensures { λ _. ⌜ now («out_offsets» .exit) ≡ storeOffsets (layoutAt (columnAt table («data» .entry) (offsets .entry) (validity .entry)))
+        (takeRows (rowsOf (columnAt table («data» .entry) (offsets .entry) (validity .entry))) (indexColumnAt indices («index_data» .entry) («index_validity» .entry))) (now («out_offsets» .entry)) ⌝ }
+    ensures { λ _. ⌜ now («out_data» .exit) ≡ overwrite (valueBytes (layoutAt (columnAt table («data» .entry) (offsets .entry) (validity .entry)))
+        (takeRows (rowsOf (columnAt table («data» .entry) (offsets .entry) (validity .entry))) (indexColumnAt indices («index_data» .entry) («index_validity» .entry)))) (now («out_data» .entry)) ⌝ }
+{
+    let kind = kind_of(table.kind);
+    let rows = table.rows as usize;
+    let width = table.width as usize;
+    let size = table.size as usize;
+    match kind {
+        Kind::Primitive => {
+            take_native(
+                data,
+                width,
+                rows,
+                indices,
+                index_data,
+                index_validity,
+                out_data,
+            )
+        }
+        Kind::Boolean => {
+            take_boolean(
+                data,
+                table.data_bit as usize,
+                indices,
+                index_data,
+                index_validity,
+                out_data,
+            )
+        }
+        Kind::VariableBytes => take_bytes(
+            table,
+            data,
+            offsets,
+            validity,
+            indices,
+            index_data,
+            index_validity,
+            out_offsets,
+            out_data,
+        ),
+        Kind::List => take_list(
+            table,
+            data,
+            offsets,
+            validity,
+            indices,
+            index_data,
+            index_validity,
+            out_offsets,
+            out_data,
+        ),
+        Kind::FixedSizeList => take_fixed_size_list_primitive(
+            data,
+            size,
+            width,
+            rows,
+            indices,
+            index_data,
+            index_validity,
+            out_data,
+        ),
+        Kind::FixedSizeBinary => {
+            take_fixed_size_binary(
+                data,
+                size,
+                rows,
+                indices,
+                index_data,
+                index_validity,
+                out_data,
+            )
+        }
+        Kind::Unknown => {}
+    }
+}
