@@ -1,0 +1,105 @@
+// What the printer's C firmware calls: numbers and byte slices, each slice a pointer and a length. The number is returned, and the four numbers are
+// written into the lent answer, refusals included; an answer slice of fewer than 32 bytes gets 7 before every other test, and nothing is written.
+use crate::answer::answered_numbers;
+use crate::take::take;
+use bits::number::write_u64;
+use tables::refusal::Answer;
+use tables::table::Indices;
+use tables::table::Table;
+ghost use mathlib.Core.Path.{_≡_};
+ghost use Prim.Native.Nat.{_≤_};
+ghost use lib.ListN.{length};
+ghost use Rattle.bits.specs.Bytes.{overwrite};
+ghost use Rattle.tables.specs.Columns.{columnAt, indexColumnAt};
+ghost use Rattle.tables.specs.Refusals.{WellFormed};
+ghost use Rattle.gathers.specs.Gather.{gather};
+ghost use Rattle.gathers.specs.Blank.{blank};
+ghost use Rattle.hoglidra.specs.Answered.{answerBytes};
+ghost use Rattle.hoglidra.specs.Entry.{outputAt, tableOf, indicesOf, exported};
+
+// Writes the four numbers, eight bytes each, over the first 32 bytes.
+fn write_answer(answer: Answer, out: &mut [u8])
+    requires { ⌜ 32 ≤ length (now out) ⌝ }
+    ensures { λ _. ⌜ now (out .exit) ≡ overwrite (answerBytes answer) (now (out .entry)) ⌝ }
+{
+    write_u64(out, 0, answer.number);
+    write_u64(out, 8, answer.place);
+    write_u64(out, 16, answer.total);
+    write_u64(out, 24, answer.nulls);
+}
+
+#[no_mangle]
+pub extern "C" fn hoglidra_take(
+    kind: u64,
+    width: u64,
+    size: u64,
+    offset_width: u64,
+    rows: u64,
+    data_bit: u64,
+    validity_bit: u64,
+    data: &[u8],
+    offsets: &[u8],
+    validity: &[u8],
+    index_width: u64,
+    count: u64,
+    index_validity_bit: u64,
+    index_data: &[u8],
+    index_validity: &[u8],
+    out_validity: &mut [u8],
+    out_offsets: &mut [u8],
+    out_data: &mut [u8],
+    answer: &mut [u8],
+) -> u64
+    ensures right { λ r. ⌜ record { number = r; answer = now (answer .exit); output = outputAt («out_validity» .exit) («out_offsets» .exit) («out_data» .exit) }
+        ≡ exported
+        (gather
+        (columnAt (tableOf kind width size «offset_width» rows «data_bit» «validity_bit») («data» .entry) (offsets .entry) (validity .entry))
+        (indexColumnAt (indicesOf «index_width» count «index_validity_bit») («index_data» .entry) («index_validity» .entry))
+        (outputAt («out_validity» .entry) («out_offsets» .entry) («out_data» .entry)))
+        (outputAt («out_validity» .entry) («out_offsets» .entry) («out_data» .entry))
+        (now (answer .entry)) ⌝ }
+    ensures private { λ r. ⌜ (WellFormed (columnAt (tableOf kind width size «offset_width» rows «data_bit» «validity_bit») («data» .entry) (offsets .entry) (validity .entry))
+        → record { number = r; answer = now (answer .exit); output = outputAt («out_validity» .exit) («out_offsets» .exit) («out_data» .exit) }
+        ≡ exported
+        (gather
+        (blank
+        (columnAt (tableOf kind width size «offset_width» rows «data_bit» «validity_bit») («data» .entry) (offsets .entry) (validity .entry))
+        (indexColumnAt (indicesOf «index_width» count «index_validity_bit») («index_data» .entry) («index_validity» .entry)))
+        (indexColumnAt (indicesOf «index_width» count «index_validity_bit») («index_data» .entry) («index_validity» .entry))
+        (outputAt («out_validity» .entry) («out_offsets» .entry) («out_data» .entry)))
+        (outputAt («out_validity» .entry) («out_offsets» .entry) («out_data» .entry))
+        (now (answer .entry))) ⌝ }
+{
+    if answer.len() < 32 {
+        return 7;
+    }
+    let table = Table {
+        kind,
+        width,
+        size,
+        offset_width,
+        rows,
+        data_bit,
+        validity_bit,
+    };
+    let indices = Indices {
+        width: index_width,
+        count,
+        validity_bit: index_validity_bit,
+    };
+    let answered = take(
+        table,
+        data,
+        offsets,
+        validity,
+        indices,
+        index_data,
+        index_validity,
+        out_validity,
+        out_offsets,
+        out_data,
+    );
+    let numbers = answered_numbers(answered);
+    write_answer(numbers, answer);
+    numbers.number
+}
