@@ -1,6 +1,6 @@
 // Puts columns of the paper, good and damaged, to the tests of refusals 1 to 4, and writes a line for each: what it is, and the answer.
+use checks::columns::check_columns;
 use libc::STDOUT_FILENO;
-use tables::check::check_columns;
 use tables::refusal::Checked;
 use tables::refusal::refusal_numbers;
 use tables::table::Indices;

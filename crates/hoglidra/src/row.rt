@@ -2,7 +2,7 @@
 // refusals 1 to 4 meets, another kind, an absent row or a null row the part is empty, and the second entry says no.
 use bits::bit::is_valid;
 use bits::number::number_at;
-use tables::check::check_table;
+use checks::columns::check_table;
 use tables::refusal::Checked;
 use tables::table::Table;
 ghost use mathlib.Core.Path.{_≡_};

@@ -3,6 +3,7 @@
 use crate::answer::Answered;
 use crate::answer::overflowed;
 use crate::answer::refused;
+use checks::columns::check_columns;
 use selection::bounds::check_bounds;
 use selection::null::take_nulls;
 use stages::measure::measure;
@@ -10,7 +11,6 @@ use stages::space::Lengths;
 use stages::space::check_space;
 use stages::space::needed_lengths;
 use stages::values::take_values;
-use tables::check::check_columns;
 use tables::refusal::Checked;
 use tables::table::Indices;
 use tables::table::Table;

@@ -1,0 +1,16 @@
+-- `checks::sizes::too_short` meets its contract: its tests are those of the definition, in their order. Assumes nothing.
+use borrow.Author.Needs.{needs}
+use Rattle.checks.proofs.sizes.too_short.Statement.{statement}
+use Rattle.checks.proofs.sizes.too_short.Tie as tie
+
+values-short-requires : tie.Need-values-short-requires
+values-short-requires c κs = search needs
+
+validity-short-requires : tie.Need-validity-short-requires
+validity-short-requires c κs = search needs
+
+returns : tie.Need-returns
+returns c = cc
+
+pub too-short-spec : {M : Type 1} → statement M
+too-short-spec = tie.close (tie.spec values-short-requires validity-short-requires returns)
