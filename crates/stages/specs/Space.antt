@@ -7,8 +7,7 @@ use Rattle.tables.specs.declared.refusal.Answer.{Answer}
 use Rattle.tables.specs.declared.table.Layout.{Layout}
 use Rattle.tables.specs.declared.table.Layout.the-variants.{Blocks, Bits, Runs}
 use Rattle.tables.specs.Answers.{firstOf}
-use Rattle.tables.specs.Rows.{Rows}
-use Rattle.gathers.specs.Stored.{Output, validityLength, offsetLength, valueLength}
+use Rattle.gathers.specs.Stored.{Output}
 use Rattle.gathers.specs.Gather.{spaceLine}
 use Rattle.stages.specs.declared.space.Lengths.{Lengths}
 
@@ -30,9 +29,6 @@ lengthsRefusal needed lent =
     ∷ spaceLine 3 (needed .values) (lent .values)
     ∷ [])
 
--- the lengths of lent outputs, and what rows need
+-- the lengths of lent outputs
 abbrev pub lentLengths : Output → Lengths
 lentLengths o = record { validity = length (o .validity); offsets = length (o .offsets); values = length (o .values) }
-
-abbrev pub rowLengths : Rows → Lengths
-rowLengths v = record { validity = validityLength v; offsets = offsetLength (v .layout) v; values = valueLength (v .layout) v }
