@@ -160,11 +160,8 @@ module _ (v : Rows) where
   measured-over p e h = rw (e, lt-ltb p (v .count) h)
 
 module _ (c : Column) (x : IndexColumn) (u : ℕ) (e : layoutAt c ≡ Runs u) where
-  -- the first run after which the running total is above most
-  abbrev pub above : ℕ → ℕ
-  above most = first (x .indices .count) (λ i. ltb most (sum (suc i) (takenEntries c x)))
-
-  pub overflow-narrow : c .table .«offset_width» ≡ 4 → overflowAt (layoutAt c) (takeRows (rowsOf c) x) ≡ above 2_147_483_647
+  pub overflow-narrow : c .table .«offset_width» ≡ 4
+      → overflowAt (layoutAt c) (takeRows (rowsOf c) x) ≡ first (x .indices .count) (λ i. ltb 2_147_483_647 (sum (suc i) (takenEntries c x)))
   unfolding overflowAt startOf takenEntries takenValid takenBitValid
   overflow-narrow d = rw (rowsOf-by c, e, eq-eqb (c .table .«offset_width») 4 d)
 
