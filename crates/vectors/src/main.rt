@@ -1,0 +1,58 @@
+// Runs every case of the files beside it through the exported entry, and compares each number of the answer and each byte of the outputs. Writes a line
+// for each file, and before it the file's first difference, if there is one.
+mod case; // case.rt: a case, run and compared
+mod report; // report.rt: what is written
+mod text; // text.rt: fields, numbers and bytes of a text
+
+use case::run;
+use report::Tally;
+use report::print_tally;
+use report::tell;
+use text::find;
+
+// Takes in a line: an empty one, a comment, or a case.
+fn step(name: &[u8], text: &[u8], number: u64, tally: Tally) -> Tally {
+    if text.len() == 0 {
+        return tally;
+    }
+    if text[0] == b'#' {
+        return tally;
+    }
+    let verdict = run(text);
+    tell(name, number, verdict, tally)
+}
+
+fn run_text(name: &[u8], text: &[u8]) {
+    let mut tally = Tally {
+        cases: 0,
+        differ: 0,
+    };
+    let mut number = 0;
+    let mut from = 0;
+    while from < text.len() {
+        let to = find(text, from, b'\n');
+        number = std::num::wrapping_add_u64(number, 1);
+        tally = step(name, &text[from..to], number, tally);
+        if text.len() <= to {
+            break;
+        }
+        from = to + 1;
+    }
+    print_tally(name, tally);
+}
+
+fn run_file(name: &[u8]) {
+    let mut text = [0u8; 262144];
+    let file = os::open_read(name);
+    let end = io::read_full(file, &mut text);
+    libc::close(file);
+    run_text(name, &text[..end]);
+}
+
+fn main() {
+    run_file(b"trials.txt");
+    run_file(b"refusals.txt");
+    run_file(b"columnar-format.txt");
+    run_file(b"take-docs.txt");
+    run_file(b"take-kernels.txt");
+}
