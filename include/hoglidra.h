@@ -9,6 +9,16 @@
 extern "C" {
 #endif
 
+/* What a column is made of, by the names of the Arrow Columnar Format. */
+enum hoglidra_kind {
+    HOGLIDRA_PRIMITIVE = 1,        /* width */
+    HOGLIDRA_BOOLEAN = 2,          /* data_bit */
+    HOGLIDRA_BYTES = 3,            /* offset_width; strings and binary data */
+    HOGLIDRA_LIST = 4,             /* width, offset_width; the child has no nulls */
+    HOGLIDRA_FIXED_SIZE_LIST = 5,  /* width, size in child elements; the child has no nulls */
+    HOGLIDRA_FIXED_SIZE_BINARY = 6 /* size in bytes */
+};
+
 /* The number that hoglidra_take returns, and the first of the four in the answer. */
 enum hoglidra_number {
     HOGLIDRA_GATHERED = 0, /* total: data bytes written; nulls: null rows written */
@@ -21,16 +31,25 @@ enum hoglidra_number {
     HOGLIDRA_SPACE = 7     /* place: 1 validity, 2 offsets, 3 data; total: the bytes that output needs */
 };
 
-/* kind: 1 primitive, 2 boolean, 3 variable bytes, 4 list, 5 fixed-size list, 6 fixed-size binary.
-   width: bytes of a value, 1, 2, 4, 8, 16 or 32 (kinds 1, 4, 5). size: child elements (kind 5) or bytes (kind 6) of a row.
-   offset_width: 4 or 8 (kinds 3, 4). data_bit: bit offset of boolean data (kind 2). A field that the kind does not use is ignored.
-   index_width: 1, 2, 4 or 8; indices are unsigned. A validity of length 0 means that every row is valid.
+/* The bytes of the answer, and the four numbers that they hold. */
+#define HOGLIDRA_ANSWER_LEN 32
 
-   Each slice is a pointer and a length in bytes; a pointer may be NULL only if its length is 0. The three outputs and the answer overlap
-   nothing else. Every length and every content of a slice is allowed: what does not fit is refused, and then no output byte changes.
+struct hoglidra_answer {
+    uint64_t number, place, total, nulls;
+};
 
-   The four numbers (number, place, total, nulls) are written over the first 32 bytes of the answer, 8 bytes each, little-endian; the number is
-   also returned. An answer slice of fewer than 32 bytes gets 7, and nothing is written at all. */
+/* Gathers. Column: rows of a kind, with the fields that the kind names above; a field or buffer that the kind does not use is ignored. width: 1, 2, 4, 8, 16
+   or 32 bytes a value. offset_width: 4 or 8. data_bit and validity_bit: where the first bit stands in the first byte. A validity of length 0 means that
+   every row is valid. Index column: count row numbers, unsigned, index_width 1, 2, 4 or 8 bytes each, with a validity of its own.
+
+   What is lent: out_validity needs (count + 7) / 8 bytes, and out_offsets (count + 1) * offset_width in kinds 3 and 4. out_data needs count rows; in kinds 3
+   and 4 a call with too little there answers HOGLIDRA_SPACE, and `total` says how much it is. Bytes past what is written are kept.
+
+   What the caller owes: each slice is a pointer and a length in bytes, and the pointer may be NULL only if the length is 0; the three outputs and the answer
+   overlap nothing else. Nothing else is asked: every number, length and content is allowed, and what does not fit is refused before an output byte changes.
+
+   The four numbers go over the first 32 bytes of the answer, 8 bytes each, little-endian; the number is also returned. An answer slice of fewer than 32 bytes
+   gets 7, and nothing is written at all. The call uses less than 2,048 bytes of stack, no heap and no other library. */
 uint64_t hoglidra_take(
     uint64_t kind, uint64_t width, uint64_t size, uint64_t offset_width, uint64_t rows, uint64_t data_bit, uint64_t validity_bit,
     const uint8_t *data, size_t data_len, const uint8_t *offsets, size_t offsets_len, const uint8_t *validity, size_t validity_len,
@@ -38,6 +57,14 @@ uint64_t hoglidra_take(
     const uint8_t *index_data, size_t index_data_len, const uint8_t *index_validity, size_t index_validity_len,
     uint8_t *out_validity, size_t out_validity_len, uint8_t *out_offsets, size_t out_offsets_len, uint8_t *out_data, size_t out_data_len,
     uint8_t *answer, size_t answer_len);
+
+/* The four numbers of an answer. */
+static inline struct hoglidra_answer hoglidra_read_answer(const uint8_t bytes[HOGLIDRA_ANSWER_LEN]) {
+    uint64_t n[4] = { 0, 0, 0, 0 };
+    for (int i = HOGLIDRA_ANSWER_LEN - 1; i >= 0; i--) n[i / 8] = n[i / 8] << 8 | bytes[i];
+    struct hoglidra_answer answer = { n[0], n[1], n[2], n[3] };
+    return answer;
+}
 
 #ifdef __cplusplus
 }

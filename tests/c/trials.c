@@ -50,16 +50,11 @@ static void expect(const char *name, const char *what, const uint8_t *got, size_
     for (size_t i = want.len; i < len; i++) if (got[i] != FILL) fail(name, what);
 }
 
-static uint64_t number(const uint8_t *p) {
-    uint64_t n = 0;
-    for (int i = 7; i >= 0; i--) n = n * 256 + p[i];
-    return n;
-}
-
 static void answered(const char *name, uint64_t returned, const uint8_t answer[40], const uint64_t want[4]) {
+    struct hoglidra_answer got = hoglidra_read_answer(answer);
     if (returned != want[0]) fail(name, "the number returned");
-    for (int i = 0; i < 4; i++) if (number(answer + 8 * i) != want[i]) fail(name, "the answer");
-    for (int i = 32; i < 40; i++) if (answer[i] != FILL) fail(name, "a byte after the answer");
+    if (got.number != want[0] || got.place != want[1] || got.total != want[2] || got.nulls != want[3]) fail(name, "the answer");
+    for (int i = HOGLIDRA_ANSWER_LEN; i < 40; i++) if (answer[i] != FILL) fail(name, "a byte after the answer");
 }
 
 static void run(const struct trial *t, size_t width) {

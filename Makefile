@@ -1,0 +1,37 @@
+# make demo: builds the archive, compiles the example against it, and runs it. make test: what the gate runs beside the proofs.
+archive = target/staticlib/libhoglidra.a
+compile = $(CC) -std=c99 -pedantic -Wall -Wextra -Werror -O2 -Iinclude
+
+.PHONY: demo test test-archive test-c test-demo
+demo: target/ingredients
+	target/ingredients
+
+test: test-archive test-c test-demo
+
+# The archive calls nothing that it does not hold: no heap, no C library.
+test-archive: $(archive)
+	nm -u $(archive) > target/undefined
+	! grep ' U ' target/undefined
+
+# The paper's trials through the archive, and the stack that a call uses.
+test-c: target/trials target/stack
+	target/trials
+	target/stack
+	valgrind --quiet --error-exitcode=1 target/trials > target/trials.log
+
+# The example prints what is said to be printed, and does nothing that valgrind objects to.
+test-demo: target/ingredients
+	valgrind --quiet --error-exitcode=1 --leak-check=full target/ingredients > target/ingredients.stdout
+	diff examples/ingredients.stdout target/ingredients.stdout
+
+$(archive): crates.txt $(wildcard crates/*/src/*.rt)
+	@mkdir -p target
+	@echo "rt staticlib hoglidra (some minutes, if nothing is proved yet)"
+	@rt staticlib hoglidra > target/staticlib.log 2>&1 || { cat target/staticlib.log; false; }
+	@touch $@
+
+target/ingredients: examples/ingredients.c include/hoglidra.h $(archive)
+	$(compile) $< $(archive) -o $@
+
+target/trials target/stack: target/%: tests/c/%.c include/hoglidra.h $(archive)
+	$(compile) $< $(archive) -o $@
