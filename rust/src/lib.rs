@@ -1,0 +1,70 @@
+//! Gathers rows of an Arrow column by a nullable index column into lent buffers.
+//!
+//! It is `take` of arrow-select with `check_bounds`, ported to Rattle, proved, and called here as a
+//! static archive. Three things hold for all input: [`take`] returns, and what does not fit is
+//! refused with no output byte changed; the result is the one that the Arrow Columnar Format
+//! defines; and rows that no index reaches leave no trace in the answer or in any output byte.
+//!
+//! A null index gives a null row. A valid index that names no row refuses the whole gather.
+//!
+//! ```
+//! use hoglidra::{take, Bitmap, Column, Gathered, Indices, Kind, Output};
+//!
+//! // "ab", null, "", "xyz"
+//! let column = Column {
+//!     kind: Kind::Bytes { offset_width: 4 },
+//!     rows: 4,
+//!     data: b"abxyz",
+//!     offsets: &[0, 0, 0, 0, 2, 0, 0, 0, 2, 0, 0, 0, 2, 0, 0, 0, 5, 0, 0, 0],
+//!     validity: Some(Bitmap { bytes: &[0b1101], bit_offset: 0 }),
+//! };
+//! // 3, 0, null, 1
+//! let nullable = Bitmap { bytes: &[0b1011], bit_offset: 0 };
+//! let indices = Indices::from_u8(&[3, 0, 9, 1]).with_validity(nullable);
+//!
+//! let (mut validity, mut offsets, mut data) = ([0; 1], [0; 20], [0; 5]);
+//! let mut output = Output { validity: &mut validity, offsets: &mut offsets, data: &mut data };
+//! let gathered = take(&column, &indices, &mut output)?;
+//!
+//! assert_eq!(gathered, Gathered { total: 5, nulls: 2 });
+//! assert_eq!(&data, b"xyzab");
+//! assert_eq!(offsets, [0, 0, 0, 0, 3, 0, 0, 0, 5, 0, 0, 0, 5, 0, 0, 0, 5, 0, 0, 0]);
+//! assert_eq!(validity, [0b0011]);
+//! # Ok::<(), hoglidra::Refusal>(())
+//! ```
+
+#![no_std]
+#![deny(missing_docs)]
+#![deny(unsafe_op_in_unsafe_fn)]
+#![warn(clippy::undocumented_unsafe_blocks)]
+
+mod answer;
+mod column;
+mod indices;
+mod output;
+pub mod raw;
+
+pub use answer::{Buffer, Gathered, Refusal};
+pub use column::{Bitmap, Column, Kind};
+pub use indices::Indices;
+pub use output::Output;
+
+// So that its example is tested too.
+#[cfg(doctest)]
+#[doc = include_str!("../README.md")]
+struct Readme;
+
+/// Gathers into `output` the rows of `column` that `indices` name, in their order.
+///
+/// An output row is null if its index is null or the row that it names is null. Null rows of
+/// variable bytes and of lists are empty. The other kinds copy what lies under a null row; under a
+/// null index they write zeros, save in primitive columns and in fixed-size binary ones of size 1,
+/// 2, 4, 8 or 16, where the number under the null is followed if there is such a row.
+///
+/// # Errors
+/// The first [`Refusal`] that is met, in the order of its cases.
+pub fn take(column: &Column, indices: &Indices, output: &mut Output) -> Result<Gathered, Refusal> {
+    let mut answer = [0; 32];
+    raw::take(&raw::Call::new(column, indices), output, &mut answer);
+    answer::outcome(raw::numbers(&answer))
+}
