@@ -1,0 +1,58 @@
+//! The comparison that the tests share, and the count of what they met.
+
+use std::collections::BTreeMap;
+
+use crate::archive;
+use crate::case::{Case, Seen};
+use crate::model;
+use crate::random::Random;
+
+pub const GATHERED: [&str; 6] =
+    ["0 kind 1", "0 kind 2", "0 kind 3", "0 kind 4", "0 kind 5", "0 kind 6"];
+pub const SPACE: [&str; 3] = ["7 place 1", "7 place 2", "7 place 3"];
+
+/// How often each answer was met, by number: 0 and 6 by kind, 7 by place.
+#[derive(Default)]
+pub struct Tally(BTreeMap<String, u64>);
+
+/// Seeds of one test, apart from those of the others.
+pub fn randoms(test: u64, count: u64) -> impl Iterator<Item = Random> {
+    (0..count).map(move |i| Random::new(test << 32 | i))
+}
+
+/// Compares everything that a call tells with the model: by the raw entry, and by `take`.
+pub fn check(seed: u64, case: &Case) -> Seen {
+    let expected = model::gather(case);
+    agree(seed, case, &archive::gather(case), &expected);
+    if let Some(seen) = archive::gather_safely(case) {
+        agree(seed, case, &seen, &expected);
+    }
+    expected
+}
+
+/// Fails with all that is needed to replay the case.
+#[track_caller]
+pub fn agree(seed: u64, case: &Case, seen: &Seen, expected: &Seen) {
+    assert!(seen == expected, "seed {seed:#x}\n{case:#?}\nseen {seen:#?}\nexpected {expected:#?}");
+}
+
+impl Tally {
+    pub fn add(&mut self, case: &Case, seen: &Seen) {
+        let met = match (seen.returned, seen.place()) {
+            (number @ (0 | 6), _) => format!("{number} kind {}", case.table.kind),
+            (7, Some(place)) => format!("7 place {place}"),
+            (7, None) => "7 short answer".to_string(),
+            (number, _) => number.to_string(),
+        };
+        *self.0.entry(met).or_default() += 1;
+    }
+
+    /// Prints the counts, and asserts that each of `answers` was met at least that often.
+    pub fn expect(&self, test: &str, least: u64, answers: &[&str]) {
+        println!("{test}: {} cases, {:?}", self.0.values().sum::<u64>(), self.0);
+        for answer in answers {
+            let met = self.0.get(*answer).copied().unwrap_or_default();
+            assert!(met >= least, "{test}: answer {answer} met {met} times");
+        }
+    }
+}

@@ -1,0 +1,14 @@
+//! The archive against an independent model of the gather, on generated columns, byte for byte.
+
+mod archive;
+mod case;
+mod check;
+mod damage;
+mod generate;
+mod limits;
+mod model;
+mod overflow;
+mod privacy;
+mod random;
+mod trials;
+mod well_formed;
