@@ -12,9 +12,9 @@ ghost use Rattle.tables.specs.Columns.{indexColumnAt};
 ghost use Rattle.gathers.specs.Buffers.{takenBlock};
 ghost use Rattle.fixed.specs.Blocked.{Blocked};
 use crate::clear::clear;
-use bits::bit::is_valid;
 use bits::number::number_at;
-use bits::slice::copy;
+use buffers::bit::is_valid;
+use buffers::slice::copy;
 use tables::table::Indices;
 
 // Whether row r, of so many, is copied to output row j, whose index has its validity at bit_offset + j. A valid index is in range.

@@ -1,7 +1,7 @@
 // The row reader: a row of variable bytes, as a part of the caller's data. Any numbers and any buffers may be handed in; for a table that one of
 // refusals 1 to 4 meets, another kind, an absent row or a null row the part is empty, and the second entry says no.
-use bits::bit::is_valid;
 use bits::number::number_at;
+use buffers::bit::is_valid;
 use checks::columns::check_table;
 use tables::refusal::Checked;
 use tables::table::Table;

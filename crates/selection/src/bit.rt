@@ -1,8 +1,8 @@
 // Bits gathered by an index column: Rust's `take_bits`, for validity and for boolean data. A byte of eight bits at a time, spare bits 0.
 // A null index gives 0, and the number under it is not used to read.
-use bits::bit::is_valid;
-use bits::bit::pack_bit;
 use bits::number::number_at;
+use buffers::bit::is_valid;
+use buffers::bit::pack_bit;
 use tables::table::Indices;
 ghost use mathlib.Core.Path.{_≡_};
 ghost use mathlib.Core.Bool.{true, _&&_};

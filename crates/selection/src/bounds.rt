@@ -1,7 +1,7 @@
 // Refusal 5, the range scan: the first valid index that is not below the row count. Numbers under null slots are passed over.
 // The number is tested first, and the validity bit only where that fails, which is almost never.
-use bits::bit::is_valid;
 use bits::number::number_at;
+use buffers::bit::is_valid;
 use tables::refusal::Checked;
 use tables::refusal::Refusal;
 use tables::table::Indices;

@@ -1,10 +1,10 @@
 // The validity of the taken rows, and how many of them are null: Rust's `take_nulls`. What the rows and the indices have of validity is tested
 // once, outside all loops; null rows are counted by the ones in whole bytes.
 use crate::bit::take_bits;
-use bits::bit::count_set_bits;
-use bits::bit::pack_bits;
 use bits::number::low;
 use bits::number::write_u64;
+use buffers::bit::count_set_bits;
+use buffers::bit::pack_bits;
 use tables::table::Indices;
 ghost use mathlib.Core.Path.{_≡_};
 ghost use mathlib.Core.Bool.{true, false, not};

@@ -1,6 +1,6 @@
 // One output row of a column of runs: the row that it has, and how many entries it has. A null output row has neither.
-use bits::bit::is_valid;
 use bits::number::number_at;
+use buffers::bit::is_valid;
 use tables::table::Indices;
 use tables::table::Table;
 ghost use mathlib.Core.Path.{_≡_};

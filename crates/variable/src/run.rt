@@ -4,7 +4,7 @@ use crate::row::Named;
 use crate::row::taken_row;
 use bits::number::number_at;
 use bits::number::put_number_at;
-use bits::slice::copy;
+use buffers::slice::copy;
 use tables::table::Indices;
 use tables::table::Table;
 ghost use mathlib.Core.Path.{_≡_};
