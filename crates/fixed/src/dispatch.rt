@@ -1,14 +1,14 @@
 // The routine at the common sizes: a literal size and a literal index width give each pair of them a loop of its own. Were one function to
 // go by the width and to call one that goes by the size, the compiler would keep the width a variable of the loops; so each width has a
 // function, as each index type has in Rust.
-use crate::block::take_each;
+use blocks::block::take_each;
 use tables::table::Indices;
 ghost use mathlib.Core.Path.{_≡_};
 ghost use Rattle.bits.specs.Sequences.{concat};
 ghost use Rattle.bits.specs.Bytes.{overwrite};
 ghost use Rattle.tables.specs.Columns.{indexColumnAt};
 ghost use Rattle.gathers.specs.Buffers.{takenBlock};
-ghost use Rattle.fixed.specs.Blocked.{Blocked};
+ghost use Rattle.blocks.specs.Blocked.{Blocked};
 
 // By indices of 1 byte.
 fn take_by_u8(

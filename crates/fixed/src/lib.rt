@@ -1,6 +1,4 @@
-// Fixed width (layer 4): columns whose rows are blocks of as many bytes each, or bits. One routine writes the taken blocks; Rust's functions
-// for primitive values, fixed-size binary and fixed-size lists are thin functions over it.
-mod block; // block.rt: the taken blocks, one after the other
-mod clear; // clear.rt: zeros
+// Fixed width (layer 4): columns whose rows are blocks of as many bytes each, or bits. Rust's functions for primitive values, fixed-size binary
+// and fixed-size lists are thin functions over the one routine of `blocks`.
 mod dispatch; // dispatch.rt: the common sizes and widths as literals
 pub mod take; // take.rt: the taken values of each kind

@@ -16,7 +16,7 @@ ghost use Rattle.tables.specs.Answers.{passes};
 ghost use Rattle.tables.specs.Refusals.{indexRefusal};
 ghost use Rattle.gathers.specs.Buffers.{takenBit, takenBlock};
 ghost use Rattle.selection.specs.Reach.{Reaches};
-ghost use Rattle.fixed.specs.Blocked.{Blocked};
+ghost use Rattle.blocks.specs.Blocked.{Blocked};
 
 // Rust's `take_native`: rows of `width` bytes; the number under a null index is read too.
 pub fn take_native(

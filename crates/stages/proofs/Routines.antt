@@ -24,7 +24,7 @@ use Rattle.gathers.specs.Stored.{validityBytes, offsetBytes, valueBytes, valueL
 use Rattle.gathers.specs.Ready.{Ready}
 use Rattle.gathers.specs.Buffers.{takenBit, takenBitValid, takenBlock}
 use Rattle.selection.specs.Reach.{Reaches}
-use Rattle.fixed.specs.Blocked.{Blocked}
+use Rattle.blocks.specs.Blocked.{Blocked}
 use Rattle.bits.proofs.Tests.{or-false}
 use Rattle.tables.proofs.Bounds.{fits-at}
 use Rattle.tables.proofs.Facts.{Formed, formed, IndexFormed, index-formed}

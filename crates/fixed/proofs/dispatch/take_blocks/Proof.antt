@@ -1,5 +1,5 @@
 -- `fixed::dispatch::take_blocks` meets its contract: without an index validity it does not matter what a null index copies. Assumes nothing.
-use Rattle.fixed.proofs.Blocks.{blocks-by-number}
+use Rattle.blocks.proofs.Blocks.{blocks-by-number}
 use borrow.Author.Needs.{needs}
 use Rattle.fixed.proofs.dispatch.take_blocks.Statement.{statement}
 use Rattle.fixed.proofs.dispatch.take_blocks.Tie as tie

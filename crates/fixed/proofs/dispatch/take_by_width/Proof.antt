@@ -1,5 +1,5 @@
 -- `fixed::dispatch::take_by_width` meets its contract: an index width is 1, 2, 4 or 8. Assumes nothing.
-use Rattle.fixed.proofs.Blocks.{width-left}
+use Rattle.blocks.proofs.Blocks.{width-left}
 use borrow.Author.Needs.{needs}
 use Rattle.fixed.proofs.dispatch.take_by_width.Statement.{statement}
 use Rattle.fixed.proofs.dispatch.take_by_width.Tie as tie

@@ -10,7 +10,7 @@ ghost use Rattle.bits.specs.Bytes.{part, overwrite, overwriteAt};
 ghost use Rattle.bits.specs.Bits.{isAbsent, validAt};
 ghost use Rattle.tables.specs.Columns.{indexColumnAt};
 ghost use Rattle.gathers.specs.Buffers.{takenBlock};
-ghost use Rattle.fixed.specs.Blocked.{Blocked};
+ghost use Rattle.blocks.specs.Blocked.{Blocked};
 use crate::clear::clear;
 use bits::number::number_at;
 use buffers::bit::is_valid;

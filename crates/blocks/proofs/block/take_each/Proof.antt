@@ -1,4 +1,4 @@
--- `fixed::block::take_each` meets its contract. The invariant: the first j blocks are written. Assumes nothing.
+-- `blocks::block::take_each` meets its contract. The invariant: the first j blocks are written. Assumes nothing.
 use mathlib.Core.Path.{_≡_, refl, ap, _∙_}
 use Prim.Native.Nat.{ℕ, _-_, _≤_}
 use native.Mathlib.Omega.{arith}
@@ -6,10 +6,10 @@ use lib.ListN.{length}
 use Rattle.bits.specs.Sequences.{concat}
 use Rattle.bits.specs.Bytes.{overwrite}
 use Rattle.gathers.specs.Buffers.{takenBlock}
-use Rattle.fixed.proofs.Blocks.{blocked-like, block-next}
+use Rattle.blocks.proofs.Blocks.{blocked-like, block-next}
 use borrow.Author.Needs.{needs}
-use Rattle.fixed.proofs.block.take_each.Statement.{statement}
-use Rattle.fixed.proofs.block.take_each.Tie as tie
+use Rattle.blocks.proofs.block.take_each.Statement.{statement}
+use Rattle.blocks.proofs.block.take_each.Tie as tie
 
 abbrev Inv-loop : tie.InvT-loop
 Inv-loop src size n rows by-number w indices numbers valid out₀ count j₀ out j =

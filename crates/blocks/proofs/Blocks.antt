@@ -13,7 +13,7 @@ use Rattle.bits.specs.Numbers.{numberAt, isNumberWidth}
 use Rattle.bits.specs.Bits.{isAbsent, validAt}
 use Rattle.tables.specs.Columns.{IndexColumn, indexValid, index}
 use Rattle.gathers.specs.Buffers.{takenBlock}
-use Rattle.fixed.specs.Blocked.{Blocked}
+use Rattle.blocks.specs.Blocked.{Blocked}
 use Rattle.bits.proofs.Sequences.{concat-cong, length-blocks}
 use Rattle.bits.proofs.Bytes.{block-inside, overwrite-tail}
 use Rattle.bits.proofs.Numbers.{width-one}
