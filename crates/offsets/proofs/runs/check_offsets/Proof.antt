@@ -1,9 +1,9 @@
--- `checks::runs::check_offsets` meets its contract. That the column passed refusals 1 to 3 says that its offsets can be read. Assumes nothing.
+-- `offsets::runs::check_offsets` meets its contract. That the column passed refusals 1 to 3 says that its offsets can be read. Assumes nothing.
 use mathlib.Core.Path.{_∙_}
 use borrow.Author.Needs.{needs}
 use Rattle.tables.proofs.Stages.{layout-told, sized-row-fits, run-unit, run-offsets, run-most, offsets-of-blocks, offsets-of-bits, offsets-refused, offsets-accepted}
-use Rattle.checks.proofs.runs.check_offsets.Statement.{statement}
-use Rattle.checks.proofs.runs.check_offsets.Tie as tie
+use Rattle.offsets.proofs.runs.check_offsets.Statement.{statement}
+use Rattle.offsets.proofs.runs.check_offsets.Tie as tie
 
 kind-of-requires : tie.Need-kind-of-requires
 kind-of-requires c κs = search needs

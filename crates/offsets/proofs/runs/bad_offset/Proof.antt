@@ -1,4 +1,4 @@
--- `checks::runs::bad_offset` meets its contract: where no offset falls and the last is at most H, none is bad. Assumes nothing.
+-- `offsets::runs::bad_offset` meets its contract: where no offset falls and the last is at most H, none is bad. Assumes nothing.
 use mathlib.Core.Path.{_≡_, sym, ap, _∙_}
 use Prim.Native.Nat.{ℕ, suc, _+_}
 use native.Mathlib.Nat.{le-refl}
@@ -9,8 +9,8 @@ use borrow.Author.Tests.{ltb-false}
 use Rattle.bits.specs.Numbers.{numberAt}
 use Rattle.tables.proofs.Forms.{first-fails, second-fails}
 use Rattle.tables.proofs.Scans.{there, all-good}
-use Rattle.checks.proofs.runs.bad_offset.Statement.{statement}
-use Rattle.checks.proofs.runs.bad_offset.Tie as tie
+use Rattle.offsets.proofs.runs.bad_offset.Statement.{statement}
+use Rattle.offsets.proofs.runs.bad_offset.Tie as tie
 
 falls-somewhere-requires : tie.Need-falls-somewhere-requires
 falls-somewhere-requires c κs = search needs

@@ -1,4 +1,4 @@
--- `checks::runs::falls_by` meets its contract. The invariant of both loops: of the first i offsets none is above the next.
+-- `offsets::runs::falls_by` meets its contract. The invariant of both loops: of the first i offsets none is above the next.
 -- Assumes nothing.
 use mathlib.Core.Path.{_≡_, refl, sym, ap, _∙_}
 use mathlib.Core.Bool.{false}
@@ -9,8 +9,8 @@ use Rattle.bits.specs.Sequences.{any}
 use Rattle.bits.specs.Numbers.{numberAt}
 use Rattle.tables.specs.Bounds.{falls}
 use Rattle.tables.proofs.Scans.{there, falls-found, falls-not, one-test}
-use Rattle.checks.proofs.runs.falls_by.Statement.{statement}
-use Rattle.checks.proofs.runs.falls_by.Tie as tie
+use Rattle.offsets.proofs.runs.falls_by.Statement.{statement}
+use Rattle.offsets.proofs.runs.falls_by.Tie as tie
 
 abbrev Inv-loop : tie.InvT-loop
 Inv-loop offsets w rows i₀ i = (i ≤ rows) × (any i (falls (numberAt w offsets)) ≡ false)

@@ -1,12 +1,12 @@
--- `checks::runs::falls_somewhere` meets its contract: an offset width is 4 or 8. Assumes nothing.
+-- `offsets::runs::falls_somewhere` meets its contract: an offset width is 4 or 8. Assumes nothing.
 use mathlib.Core.Path.{sym, ap, subst, _∙_}
 use Prim.Native.Nat.{ℕ}
 use Rattle.bits.specs.Sequences.{any}
 use Rattle.bits.specs.Numbers.{numberAt}
 use Rattle.tables.specs.Bounds.{Offsets, falls}
 use Rattle.tables.proofs.Bounds.{offset-width-8}
-use Rattle.checks.proofs.runs.falls_somewhere.Statement.{statement}
-use Rattle.checks.proofs.runs.falls_somewhere.Tie as tie
+use Rattle.offsets.proofs.runs.falls_somewhere.Statement.{statement}
+use Rattle.offsets.proofs.runs.falls_somewhere.Tie as tie
 
 falls-by-requires : tie.Need-falls-by-requires
 falls-by-requires c κs =

@@ -1,11 +1,11 @@
--- `checks::runs::falls_in_eight` meets its contract: nine offsets in a row, each held against the one before. Assumes nothing.
+-- `offsets::runs::falls_in_eight` meets its contract: nine offsets in a row, each held against the one before. Assumes nothing.
 use Prim.Native.Nat.{_+_}
 use native.Mathlib.Omega.{arith}
 use borrow.Author.Needs.{needs}
 use Rattle.bits.specs.Numbers.{numberAt}
 use Rattle.tables.proofs.Scans.{there, eight-tests}
-use Rattle.checks.proofs.runs.falls_in_eight.Statement.{statement}
-use Rattle.checks.proofs.runs.falls_in_eight.Tie as tie
+use Rattle.offsets.proofs.runs.falls_in_eight.Statement.{statement}
+use Rattle.offsets.proofs.runs.falls_in_eight.Tie as tie
 
 number-at-requires : tie.Need-number-at-requires
 number-at-requires c κs = there (c .before .pre .0) (c .before .args .i) (omega arith)

@@ -1,4 +1,4 @@
--- `checks::runs::find_bad` meets its contract. The loop's invariant: no offset below i is bad, and `before` is what offset i may not be below.
+-- `offsets::runs::find_bad` meets its contract. The loop's invariant: no offset below i is bad, and `before` is what offset i may not be below.
 -- Assumes nothing.
 use mathlib.Core.Path.{_≡_, refl, sym, _∙_}
 use mathlib.Core.Bool.{false}
@@ -9,8 +9,8 @@ use Rattle.bits.specs.Numbers.{numberAt}
 use Rattle.tables.specs.Refusals.{isBad}
 use Rattle.bits.proofs.Sequences.{first-at, first-none}
 use Rattle.tables.proofs.Scans.{there, floor, floor-next, bad-test}
-use Rattle.checks.proofs.runs.find_bad.Statement.{statement}
-use Rattle.checks.proofs.runs.find_bad.Tie as tie
+use Rattle.offsets.proofs.runs.find_bad.Statement.{statement}
+use Rattle.offsets.proofs.runs.find_bad.Tie as tie
 
 abbrev Inv-loop : tie.InvT-loop
 Inv-loop offsets w rows most before₀ i₀ before i =
