@@ -2,27 +2,31 @@
 archive = target/staticlib/libhoglidra.a
 compile = $(CC) -std=c99 -pedantic -Wall -Wextra -Werror -O2 -Iinclude
 
-.PHONY: demo test test-archive test-c test-demo
+.PHONY: demo test test-archive test-c test-demo test-rust
 demo: target/ingredients
 	target/ingredients
 
-test: test-archive test-c test-demo
+test: test-archive test-c test-demo test-rust
 
 # The archive calls nothing that it does not hold: no heap, no C library.
 test-archive: $(archive)
 	nm -u $(archive) > target/undefined
 	! grep ' U ' target/undefined
 
-# The paper's trials through the archive, and the stack that a call uses.
-test-c: target/trials target/stack
-	target/trials
+# Trials, published examples and published answers through the archive, the README's example, and the stack that a call uses.
+test-c: target/cases target/readme target/stack
+	valgrind --quiet --error-exitcode=1 target/cases crates/vectors/data/*.txt
+	target/readme
 	target/stack
-	valgrind --quiet --error-exitcode=1 target/trials > target/trials.log
 
 # The example prints what is said to be printed, and does nothing that valgrind objects to.
 test-demo: target/ingredients
 	valgrind --quiet --error-exitcode=1 --leak-check=full target/ingredients > target/ingredients.stdout
 	diff examples/ingredients.stdout target/ingredients.stdout
+
+# The archive against a model that was written from the paper alone, and the examples of the Rust documentation.
+test-rust: $(archive)
+	cd rust && cargo test --offline
 
 $(archive): crates.txt $(wildcard crates/*/src/*.rt)
 	@mkdir -p target
@@ -33,5 +37,10 @@ $(archive): crates.txt $(wildcard crates/*/src/*.rt)
 target/ingredients: examples/ingredients.c include/hoglidra.h $(archive)
 	$(compile) $< $(archive) -o $@
 
-target/trials target/stack: target/%: tests/c/%.c include/hoglidra.h $(archive)
-	$(compile) $< $(archive) -o $@
+target/cases target/readme target/stack: target/%: tests/c/%.c include/hoglidra.h $(archive)
+	$(compile) -Itarget $< $(archive) -o $@
+
+target/readme: target/readme.inc
+target/readme.inc: README.md
+	@mkdir -p target
+	sed -n '/^```c$$/,/^```$$/{/^```/d;p}' README.md > $@

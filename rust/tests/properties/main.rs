@@ -9,6 +9,6 @@ mod limits;
 mod model;
 mod overflow;
 mod privacy;
+mod published;
 mod random;
-mod trials;
 mod well_formed;

@@ -1,7 +1,7 @@
 //! Running totals about 2,147,483,647, of rows that no test could copy.
 
-use crate::case::{Bytes, Case, Lent, Table};
-use crate::check::{check, randoms, Tally};
+use crate::case::{Bytes, Case, IndexColumn, Lent, Seen, Table};
+use crate::check::{agree, check, randoms, Tally};
 use crate::generate::{encode, lay_out_indices};
 use crate::random::Random;
 
@@ -90,4 +90,44 @@ fn totals_that_four_bytes_cannot_hold() {
     }
     let answers = ["5", "6 kind 3", "6 kind 4", "7 place 1", "7 place 2", "7 place 3"];
     tally.expect("overflow", 300, &answers);
+}
+
+/// The paper's trial 10, which is too long for a line among the published cases.
+#[test]
+fn trial_10_overflow_before_space() {
+    for (kind, told) in [(3, 2_147_483_648), (4, 2_147_418_112)] {
+        for (count, numbers) in [(32_768, [6, 32_767, told, 0]), (32_767, [7, 3, 2_147_418_112, 0])]
+        {
+            let case = long_row(kind, count);
+            let expected = Seen::new(&case, numbers, case.lent.clone());
+            agree(0, &case, &check(0, &case), &expected);
+        }
+    }
+}
+
+/// One row of 65,536 bytes, by so many times index 0; only the data output is too short.
+fn long_row(kind: u64, count: usize) -> Case {
+    Case {
+        table: Table {
+            kind,
+            width: 1,
+            offset_width: 4,
+            rows: 1,
+            offsets: encode(&[0, 65_536], 4),
+            data: Bytes(vec![0; 65_536]),
+            ..Table::default()
+        },
+        indices: IndexColumn {
+            width: 1,
+            count: count as u64,
+            data: Bytes(vec![0; count]),
+            ..IndexColumn::default()
+        },
+        lent: Lent {
+            validity: Bytes(vec![0; 4096]),
+            offsets: Bytes(vec![0; 4 * 32_769]),
+            data: Bytes::default(),
+        },
+        answer: Bytes(vec![0; 40]),
+    }
 }
