@@ -1,5 +1,6 @@
 // Runs what is too long for a line of text: the paper's trial 10, which overflows, and trial 11, on byte buffers; refusal 7 at each place; and the row
 // reader. Writes a line for each, which says what was answered, and whether the outputs were kept.
+use bits::number::wide;
 use hoglidra::answer::Answered;
 use hoglidra::answer::answered_numbers;
 use hoglidra::row::has_row;
@@ -110,9 +111,10 @@ fn long_row(what: &[u8], kind: u64, count: u64) {
     );
 }
 
-// Trial 11: the row at place 1,048,575, of so many rows of a bit each.
+// Trial 11: the row at place 1,048,575, of so many rows of a bit each; it is the only one that is set.
 fn last_row(what: &[u8], rows: u64) {
-    let data = [255u8; 131073];
+    let mut data = [0u8; 131073];
+    data[131071] = 128;
     let mut out_validity = [FILL; 1];
     let mut out_offsets = [FILL; 1];
     let mut out_data = [FILL; 1];
@@ -141,6 +143,8 @@ fn last_row(what: &[u8], rows: u64) {
         &mut out_offsets,
         &mut out_data,
     );
+    write_number(b"  its byte of data: ", wide(out_data[0]));
+    write(b"\n");
 }
 
 // The offsets of the paper's table A.
@@ -180,7 +184,7 @@ fn trial_1(what: &[u8], out_validity: &mut [u8], out_offsets: &mut [u8], out_dat
     );
 }
 
-// Refusal 7 at each place: an output of trial 1 that is one byte short, or nothing is.
+// Refusal 7 at each place: all outputs of trial 1 one byte short, then the last two, the last, and none.
 fn space() {
     let mut none = [FILL; 0];
     let mut out_validity = [FILL; 1];

@@ -10,7 +10,6 @@ use crate::text::number;
 use crate::text::part;
 use bits::number::read_u64;
 use hoglidra::export::hoglidra_take;
-ghost use mathlib.Core.Path.{_≡_};
 ghost use Prim.Native.Nat.{_≤_};
 
 // The most bytes that a buffer of a case has.
@@ -56,7 +55,7 @@ struct Ends {
 fn is_field(field: &[u8], n: usize) -> bool {
     match n {
         7..=9 | 13..=14 | 20..=22 => is_bytes(field) & (byte_count(field) <= ROOM),
-        15 => field.len() == 1,
+        15 => field.len() == 1 && field[0] == b'=',
         23 => field.len() == 0,
         _ => is_digits(field, 9),
     }

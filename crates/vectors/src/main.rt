@@ -6,6 +6,7 @@ mod text; // text.rt: fields, numbers and bytes of a text
 
 use case::run;
 use report::Tally;
+use report::not_read;
 use report::print_tally;
 use report::tell;
 use text::find;
@@ -41,11 +42,18 @@ fn run_text(name: &[u8], text: &[u8]) {
     print_tally(name, tally);
 }
 
+// No file is as long as this.
+const MOST_TEXT: usize = 262144;
+
 fn run_file(name: &[u8]) {
-    let mut text = [0u8; 262144];
+    let mut text = [0u8; MOST_TEXT];
     let file = os::open_read(name);
     let end = io::read_full(file, &mut text);
     libc::close(file);
+    if (end == 0) | (end == MOST_TEXT) {
+        not_read(name);
+        return;
+    }
     run_text(name, &text[..end]);
 }
 

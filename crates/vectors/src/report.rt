@@ -97,3 +97,8 @@ pub fn print_tally(name: &[u8], tally: Tally) {
         write(b" differ\n");
     }
 }
+
+pub fn not_read(name: &[u8]) {
+    write(name);
+    write(b": missing, empty or too long\n");
+}

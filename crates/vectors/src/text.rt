@@ -1,6 +1,5 @@
 // Lines, fields, numbers and bytes of a text. Every function takes any text; what is not there is empty, and what is no number is the largest one.
-ghost use mathlib.Core.Path.{_≡_};
-ghost use Prim.Native.Nat.{_≤_, _<_};
+ghost use Prim.Native.Nat.{_≤_};
 ghost use lib.ListN.{length};
 
 // Where the first such byte stands at or after `from`, or the text's end.
@@ -57,7 +56,10 @@ pub fn number(field: &[u8]) -> u64 {
         if 9 < next {
             return 18446744073709551615;
         }
-        if 1844674407370955160 < value {
+        if 1844674407370955161 < value {
+            return 18446744073709551615;
+        }
+        if 18446744073709551615 - value * 10 < next {
             return 18446744073709551615;
         }
         value = value * 10 + next;

@@ -29,6 +29,15 @@ returns-2 c = search needs
 returns-3 : tie.Need-returns-3 Inv-loop μ-loop
 returns-3 c = search needs
 
+mul-if4 : tie.Need-mul-if4 Inv-loop μ-loop
+mul-if4 c = search needs
+
+sub-if4 : tie.Need-sub-if4 Inv-loop μ-loop
+sub-if4 c = search needs
+
+returns-4 : tie.Need-returns-4 Inv-loop μ-loop
+returns-4 c = search needs
+
 mul-value : tie.Need-mul-value Inv-loop μ-loop
 mul-value c = search needs
 
@@ -44,8 +53,8 @@ loop-less c = search needs
 loop-again : tie.Need-loop-again Inv-loop μ-loop
 loop-again c = search needs
 
-returns-4 : tie.Need-returns-4 Inv-loop μ-loop
-returns-4 c = search needs
+returns-5 : tie.Need-returns-5 Inv-loop μ-loop
+returns-5 c = search needs
 
 pub number-spec : {M : Type 1} → statement M
 number-spec =
@@ -59,9 +68,12 @@ number-spec =
     digit-requires
     returns-2
     returns-3
+    mul-if4
+    sub-if4
+    returns-4
     mul-value
     add-value
     add-i
     loop-less
     loop-again
-    returns-4)
+    returns-5)
