@@ -30,6 +30,7 @@ pub struct Gathered {
 /// assert_eq!((validity, data), ([0xAA; 1], [0xAA; 2]));
 /// ```
 #[derive(Clone, Copy, Debug, PartialEq, Eq)]
+#[non_exhaustive]
 pub enum Refusal {
     /// A width, an offset width or an index width that is not listed; of the [`raw`](crate::raw)
     /// entry, also an unknown kind.

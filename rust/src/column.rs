@@ -3,6 +3,7 @@
 /// A width is the length of a value in bytes: 1, 2, 4, 8, 16 or 32. An offset width is 4 or 8. Any
 /// number may be said; [`take`](crate::take) refuses what is not listed.
 #[derive(Clone, Copy, Debug, PartialEq, Eq)]
+#[non_exhaustive]
 pub enum Kind {
     /// Fixed-size primitive: `width` bytes a row.
     Primitive {

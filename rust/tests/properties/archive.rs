@@ -100,6 +100,7 @@ fn numbers(outcome: Result<Gathered, Refusal>) -> [u64; 4] {
             Buffer::Offsets => (2, needed),
             Buffer::Data => (3, needed),
         },
+        other => panic!("the paper has no such refusal: {other}"),
     };
     [refusal.number(), place, total, 0]
 }

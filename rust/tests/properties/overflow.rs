@@ -114,7 +114,7 @@ fn long_row(kind: u64, count: usize) -> Case {
             offset_width: 4,
             rows: 1,
             offsets: encode(&[0, 65_536], 4),
-            data: Bytes(vec![0; 65_536]),
+            data: Bytes(vec![7; 65_536]),
             ..Table::default()
         },
         indices: IndexColumn {
@@ -124,10 +124,10 @@ fn long_row(kind: u64, count: usize) -> Case {
             ..IndexColumn::default()
         },
         lent: Lent {
-            validity: Bytes(vec![0; 4096]),
-            offsets: Bytes(vec![0; 4 * 32_769]),
+            validity: Bytes(vec![0xEE; 4096]),
+            offsets: Bytes(vec![0xEE; 4 * 32_769]),
             data: Bytes::default(),
         },
-        answer: Bytes(vec![0; 40]),
+        answer: Bytes(vec![0xEE; 40]),
     }
 }

@@ -96,7 +96,7 @@ fn trials_and_refusals_of_the_paper() {
 
 #[test]
 fn examples_of_the_format_and_of_the_rust() {
-    runs_all("columnar-format.txt", 11);
+    runs_all("columnar-format.txt", 12);
     runs_all("take-docs.txt", 11);
 }
 
