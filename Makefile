@@ -11,11 +11,11 @@ test: test-archive test-c test-demo test-rust
 # The archive calls nothing that it does not hold: no heap, no C library.
 test-archive: $(archive)
 	nm -u $(archive) > target/undefined
-	! grep ' U ' target/undefined
+	! grep '^ ' target/undefined
 
 # Trials, published examples and published answers through the archive, the README's example, and the stack that a call uses.
 test-c: target/cases target/readme target/stack
-	valgrind --quiet --error-exitcode=1 target/cases crates/vectors/data/*.txt
+	valgrind --quiet --error-exitcode=1 --leak-check=full target/cases crates/vectors/data/*.txt
 	target/readme
 	target/stack
 
@@ -26,9 +26,9 @@ test-demo: target/ingredients
 
 # The archive against a model that was written from the paper alone, and the examples of the Rust documentation.
 test-rust: $(archive)
-	cd rust && cargo test --offline
+	cd rust && RUSTFLAGS='-D warnings' cargo test --offline
 
-$(archive): crates.txt $(wildcard crates/*/src/*.rt)
+$(archive): crates.txt $(shell find crates -name '*.rt' -o -name '*.antt')
 	@mkdir -p target
 	@echo "rt staticlib hoglidra (some minutes, if nothing is proved yet)"
 	@rt staticlib hoglidra > target/staticlib.log 2>&1 || { cat target/staticlib.log; false; }

@@ -1,14 +1,14 @@
 /* Runs the cases of the text files that are named, which crates/vectors runs too, through the archive as a C caller sees it; then the paper's trial 10, and an
-   answer slice that is too short. Outputs are lent with just the room needed and with more, and filled, so that a byte too many and a byte changed by a
-   refusal show. Prints a line for each file; exits with 1 at the first difference. */
+   answer slice that is too short. Each buffer is allocated at its length, so that valgrind sees a byte read or written past it; outputs are lent with just the
+   room needed and with more, and filled, so that a byte changed by a refusal shows. Prints a line for each file; exits with 1 at the first difference. */
 #include "hoglidra.h"
 #include <stdio.h>
 #include <stdlib.h>
 #include <string.h>
 
-enum { ROOM = 1024, MORE = 9, FILL = 0xEE, LINE = 8192 };
+enum { MORE = 9, FILL = 0xEE, LINE = 8192 };
 
-struct buffer { uint8_t at[ROOM]; size_t len; };
+struct buffer { uint8_t *at; size_t len; };
 
 /* A line: the column, the index column, and after '=' the answer and the outputs. */
 struct gather {
@@ -30,14 +30,29 @@ static const char *field(void) {
     return text;
 }
 
+static uint64_t number(const char *text) {
+    if (strspn(text, "0123456789") != strlen(text)) fail("not a case");
+    return strtoull(text, NULL, 10);
+}
+
 static void read_numbers(uint64_t *numbers, int count) {
-    for (int i = 0; i < count; i++) numbers[i] = strtoull(field(), NULL, 10);
+    for (int i = 0; i < count; i++) numbers[i] = number(field());
+}
+
+/* As many bytes as are asked for, filled; NULL for none. */
+static uint8_t *filled(size_t len) {
+    if (!len) return NULL;
+    uint8_t *at = malloc(len);
+    if (!at) fail("no memory");
+    return memset(at, FILL, len);
 }
 
 static void read_bytes(struct buffer *b) {
     const char *text = field();
-    b->len = strlen(text) / 2;
-    if (b->len > ROOM) fail("not a case");
+    size_t digits = strcmp(text, "-") ? strlen(text) : 0;
+    if (digits % 2 || strspn(text, "0123456789abcdef") < digits) fail("not a case");
+    b->len = digits / 2;
+    b->at = filled(b->len);
     for (size_t i = 0; i < b->len; i++) {
         const char pair[3] = { text[2 * i], text[2 * i + 1], 0 };
         b->at[i] = (uint8_t)strtoul(pair, NULL, 16);
@@ -45,7 +60,7 @@ static void read_bytes(struct buffer *b) {
 }
 
 static void read_gather(char *line, struct gather *g) {
-    g->column[0] = strtoull(strtok(line, " "), NULL, 10);
+    g->column[0] = number(strtok(line, " "));
     read_numbers(g->column + 1, 6);
     read_bytes(&g->data), read_bytes(&g->offsets), read_bytes(&g->validity);
     read_numbers(g->index, 3);
@@ -65,21 +80,30 @@ static void expect_answer(uint64_t returned, const uint8_t answer[HOGLIDRA_ANSWE
 
 static void run(const struct gather *g, size_t more) {
     static const char *const names[3] = { "the validity differs", "the offsets differ", "the data differs" };
-    uint8_t out[3][ROOM + MORE], answer[HOGLIDRA_ANSWER_LEN + MORE];
-    memset(out, FILL, sizeof out), memset(answer, FILL, sizeof answer);
+    uint8_t *out[3], answer[HOGLIDRA_ANSWER_LEN + MORE];
+    size_t len[3];
+    memset(answer, FILL, sizeof answer);
+    for (int i = 0; i < 3; i++) len[i] = g->outputs[i].len + more, out[i] = filled(len[i]);
     const uint64_t *c = g->column;
     uint64_t returned = hoglidra_take(c[0], c[1], c[2], c[3], c[4], c[5], c[6], g->data.at, g->data.len, g->offsets.at, g->offsets.len,
         g->validity.at, g->validity.len, g->index[0], g->index[1], g->index[2], g->index_data.at, g->index_data.len, g->index_validity.at, g->index_validity.len,
-        out[0], g->outputs[0].len + more, out[1], g->outputs[1].len + more, out[2], g->outputs[2].len + more, answer, sizeof answer);
+        out[0], len[0], out[1], len[1], out[2], len[2], answer, sizeof answer);
     expect_answer(returned, answer, g->answer);
-    for (int i = 0; i < 3; i++)
-        for (size_t k = 0; k < sizeof out[i]; k++)
+    for (int i = 0; i < 3; i++) {
+        for (size_t k = 0; k < len[i]; k++)
             if (out[i][k] != (k < g->outputs[i].len ? g->outputs[i].at[k] : FILL)) fail(names[i]);
+        free(out[i]);
+    }
+}
+
+static void free_gather(struct gather *g) {
+    struct buffer *const buffers[] = { &g->data, &g->offsets, &g->validity, &g->index_data, &g->index_validity, &g->outputs[0], &g->outputs[1], &g->outputs[2] };
+    for (size_t i = 0; i < sizeof buffers / sizeof *buffers; i++) free(buffers[i]->at);
 }
 
 static void run_file(const char *path) {
     char line[LINE];
-    static struct gather g;
+    struct gather g;
     int cases = 0;
     where = path, line_number = 0;
     FILE *file = fopen(path, "r");
@@ -89,6 +113,7 @@ static void run_file(const char *path) {
         if (line[0] == '#' || line[0] == '\n') continue;
         read_gather(line, &g);
         run(&g, 0), run(&g, MORE);
+        free_gather(&g);
         cases++;
     }
     fclose(file);

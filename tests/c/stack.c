@@ -1,5 +1,5 @@
-/* How much stack a call uses: one gather of each kind is run on a stack that was filled with a pattern, and what lies below the deepest byte that changed
-   was never used. Fails above the number that include/hoglidra.h names. */
+/* How much stack a call uses: a gather of each kind, offset width and index width is run on a stack that was filled with a pattern, and what lies below the
+   deepest byte that changed was never used. Fails above the number that include/hoglidra.h names. */
 #define _XOPEN_SOURCE 700
 #include "hoglidra.h"
 #include <stdio.h>
@@ -10,17 +10,19 @@ enum { STACK = 1 << 16, PATTERN = 0xA5, PROMISED = 2048 };
 
 static uint8_t stack[STACK];
 static ucontext_t outside, inside;
-static uint64_t kind, number;
+static uint64_t kind, offset_width, index_width, number;
 
 static void nothing(void) {
 }
 
-/* Two rows by three indices, one of them null; the size makes rows of kinds 5 and 6 long enough for their loops. */
+/* Two rows by three indices, the first of them null, of which one names row 1 at every index width. One row is empty and one has 100 bytes at both offset
+   widths, and the size makes rows of kinds 5 and 6 as long, so that the loops over a row run. */
 static void gather(void) {
-    static const uint8_t data[256], offsets[12] = { 0, 0, 0, 0, 100, 0, 0, 0, 120, 0, 0, 0 }, validity[1] = { 1 }, indices[3] = { 1, 0, 1 }, filled[1] = { 5 };
-    static uint8_t out_validity[1], out_offsets[16], out_data[512], answer[HOGLIDRA_ANSWER_LEN];
-    number = hoglidra_take(kind, 1, 100, 4, 2, 0, 0, data, sizeof data, offsets, sizeof offsets, validity, 1, 1, 3, 0, indices, sizeof indices, filled, 1,
-        out_validity, sizeof out_validity, out_offsets, sizeof out_offsets, out_data, sizeof out_data, answer, sizeof answer);
+    static const uint8_t data[256], offsets[24] = { [8] = 100, [16] = 100 }, validity[1] = { 3 },
+        indices[24] = { [2] = 1, [4] = 1, [8] = 1 }, filled[1] = { 6 };
+    static uint8_t out_validity[1], out_offsets[32], out_data[512], answer[HOGLIDRA_ANSWER_LEN];
+    number = hoglidra_take(kind, 1, 100, offset_width, 2, 0, 0, data, sizeof data, offsets, sizeof offsets, validity, 1, index_width, 3, 0, indices, sizeof indices,
+        filled, 1, out_validity, sizeof out_validity, out_offsets, sizeof out_offsets, out_data, sizeof out_data, answer, sizeof answer);
 }
 
 /* The bytes of the stack that were used, a stack growing down. */
@@ -39,11 +41,13 @@ static int used_by(void (*f)(void)) {
 
 int main(void) {
     int most = 0, idle = used_by(nothing);
-    for (kind = HOGLIDRA_PRIMITIVE; kind <= HOGLIDRA_FIXED_SIZE_BINARY; kind++) {
-        int used = used_by(gather) - idle;
-        if (number != HOGLIDRA_GATHERED) return printf("kind %d was refused\n", (int)kind), 1;
-        if (used > most) most = used;
-    }
+    for (kind = HOGLIDRA_PRIMITIVE; kind <= HOGLIDRA_FIXED_SIZE_BINARY; kind++)
+        for (offset_width = 4; offset_width <= 8; offset_width *= 2)
+            for (index_width = 1; index_width <= 8; index_width *= 2) {
+                int used = used_by(gather) - idle;
+                if (number != HOGLIDRA_GATHERED) return printf("kind %d was refused with %d\n", (int)kind, (int)number), 1;
+                if (used > most) most = used;
+            }
     printf("stack of a call: %d bytes at most\n", most);
     return most >= PROMISED;
 }
