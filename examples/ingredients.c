@@ -1,5 +1,5 @@
-/* An ingredient table as four Arrow columns, gathered line by line for a recipe that has open lines; then a recipe that names an ingredient which is not
-   in the table. Every byte that is printed comes from the gathered columns. */
+/* An ingredient table as four Arrow columns, gathered line by line for a recipe that has open lines, and printed from the gathered columns; then a recipe that
+   names an ingredient which is not in the table. */
 #include "hoglidra.h"
 #include <stdio.h>
 #include <string.h>
@@ -35,7 +35,10 @@ static const struct column columns[] = {
 };
 enum { COLUMNS = sizeof columns / sizeof *columns };
 
-static const char *const allergen_names[] = { "?", "gluten", "crustaceans", "eggs", "fish", "peanuts", "soy", "milk", "nuts" };
+static const char *allergen_name(uint8_t code) {
+    static const char *const known[] = { "?", "gluten", "crustaceans", "eggs", "fish", "peanuts", "soy", "milk", "nuts" };
+    return known[code < sizeof known / sizeof *known ? code : 0];
+}
 
 /* Gathers one column by a recipe: row numbers of a byte, and a validity bit for each, 0 where the line is open. */
 static struct hoglidra_answer gather(const struct column *c, const uint8_t *lines, uint64_t count, const uint8_t *filled, struct output *out) {
@@ -68,7 +71,7 @@ static void print_line(const struct output out[COLUMNS], uint64_t i) {
     if (bit(gram->validity, i)) printf("%5u ", (unsigned)number(gram->data, i));
     else printf("    - ");
     uint32_t first = number(contains->offsets, i), end = number(contains->offsets, i + 1);
-    for (uint32_t k = first; k < end; k++) printf("%s %s", k > first ? "," : "", allergen_names[contains->data[k]]);
+    for (uint32_t k = first; k < end; k++) printf("%s %s", k > first ? "," : "", allergen_name(contains->data[k]));
     printf("\n");
 }
 
@@ -78,7 +81,10 @@ int main(void) {
     struct hoglidra_answer answers[COLUMNS];
     for (int c = 0; c < COLUMNS; c++) {
         answers[c] = gather(&columns[c], lines, 6, filled, &out[c]);
-        if (answers[c].number != HOGLIDRA_GATHERED) return 1;
+        if (answers[c].number != HOGLIDRA_GATHERED) {
+            printf("%s: refused with %d at place %d\n", columns[c].name, (int)answers[c].number, (int)answers[c].place);
+            return 1;
+        }
     }
     printf("line  name          allergen  grams  contains\n");
     for (uint64_t i = 0; i < 6; i++) print_line(out, i);

@@ -23,7 +23,7 @@ enum hoglidra_kind {
 enum hoglidra_number {
     HOGLIDRA_GATHERED = 0, /* total: data bytes written; nulls: null rows written */
     HOGLIDRA_KIND = 1,     /* unknown kind, or a used width that is not listed */
-    HOGLIDRA_LIMIT = 2,    /* a used number or a buffer beyond its limit */
+    HOGLIDRA_LIMIT = 2,    /* a used number or a buffer beyond its limit (below) */
     HOGLIDRA_SHORT = 3,    /* a source or index buffer shorter than needed */
     HOGLIDRA_OFFSETS = 4,  /* place: the first offset that is negative, falling or past the data */
     HOGLIDRA_RANGE = 5,    /* place: the first valid index that names no row */
@@ -41,9 +41,13 @@ struct hoglidra_answer {
 /* Gathers. Column: rows of a kind, with the fields that the kind names above; a field or buffer that the kind does not use is ignored. width: 1, 2, 4, 8, 16
    or 32 bytes a value. offset_width: 4 or 8. data_bit and validity_bit: where the first bit stands in the first byte. A validity of length 0 means that
    every row is valid. Index column: count row numbers, unsigned, index_width 1, 2, 4 or 8 bytes each, with a validity of its own.
+   Limits: rows and count 1,048,576; size 65,536; bit offsets 7; each source or index buffer 16,777,216 bytes.
 
-   What is lent: out_validity needs (count + 7) / 8 bytes, and out_offsets (count + 1) * offset_width in kinds 3 and 4. out_data needs count rows; in kinds 3
-   and 4 a call with too little there answers HOGLIDRA_SPACE, and `total` says how much it is. Bytes past what is written are kept.
+   What is lent: out_validity needs (count + 7) / 8 bytes, and out_offsets (count + 1) * offset_width in kinds 3 and 4. out_data needs count rows, packed as
+   bits in kind 2; in kinds 3 and 4 a call with too little there answers HOGLIDRA_SPACE, and `total` says how much it is. Bytes past what is written are kept.
+
+   What lies under a null row of the output: nothing in kinds 3 and 4. In the others, the bytes or the bit of the null row that a valid index names. Under a null
+   index, zeros; but in kind 1, and in kind 6 of size 1, 2, 4, 8 or 16, the bytes of the row whose number stands under it, if there is such a row.
 
    What the caller owes: each slice is a pointer and a length in bytes, and the pointer may be NULL only if the length is 0; the three outputs and the answer
    overlap nothing else. Nothing else is asked: every number, length and content is allowed, and what does not fit is refused before an output byte changes.
