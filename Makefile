@@ -32,7 +32,6 @@ $(archive): crates.txt $(shell find crates -name '*.rt' -o -name '*.antt')
 	@mkdir -p target
 	@echo "rt staticlib hoglidra (some minutes, if nothing is proved yet)"
 	@rt staticlib hoglidra > target/staticlib.log 2>&1 || { cat target/staticlib.log; false; }
-	@touch $@
 
 target/ingredients: examples/ingredients.c include/hoglidra.h $(archive)
 	$(compile) $< $(archive) -o $@

@@ -1,4 +1,4 @@
-// Lines, fields, numbers and bytes of a text. Every function takes any text; what is not there is empty, and what is no number is the largest one.
+// Fields, numbers and bytes of a text. Every function takes any text; what is not there is empty.
 ghost use Prim.Native.Nat.{_≤_};
 ghost use lib.ListN.{length};
 
@@ -44,23 +44,17 @@ pub fn digit(byte: u8) -> u64
     }
 }
 
-// A field as a number; the largest one where it is empty, holds another byte than a digit, or is larger.
+// A field of digits as a number, or the largest number where it is larger.
 pub fn number(field: &[u8]) -> u64 {
-    if field.len() == 0 {
-        return 18446744073709551615;
-    }
     let mut value = 0;
     let mut i = 0;
     while i < field.len() {
         let next = digit(field[i]);
-        if 9 < next {
-            return 18446744073709551615;
+        if u64::MAX / 10 < value {
+            return u64::MAX;
         }
-        if 1844674407370955161 < value {
-            return 18446744073709551615;
-        }
-        if 18446744073709551615 - value * 10 < next {
-            return 18446744073709551615;
+        if u64::MAX - value * 10 < next {
+            return u64::MAX;
         }
         value = value * 10 + next;
         i += 1;
@@ -96,7 +90,7 @@ pub fn byte_count(field: &[u8]) -> usize {
     field.len() / 2
 }
 
-// Byte i of those that a field gives, or `other` where it gives fewer.
+// Byte i of those that a field gives, or `other` where it gives fewer; what is no digit counts as 0.
 pub fn byte_at(field: &[u8], i: usize, other: u8) -> u8 {
     if field.len() / 2 <= i {
         return other;
@@ -124,11 +118,10 @@ pub fn decode(field: &[u8], out: &mut [u8], from: usize) -> usize {
 
 // The text from one place to another; empty where there is no such part.
 pub fn part(text: &[u8], from: usize, to: usize) -> &[u8] {
-    if text.len() < to {
-        return &text[0..0];
+    if from <= to {
+        if to <= text.len() {
+            return &text[from..to];
+        }
     }
-    if to < from {
-        return &text[0..0];
-    }
-    &text[from..to]
+    &text[0..0]
 }

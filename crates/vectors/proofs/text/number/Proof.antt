@@ -11,9 +11,6 @@ Inv-loop field value₀ i₀ value i = i ≤ length field
 abbrev μ-loop : tie.MeasureT-loop
 μ-loop field value₀ i₀ value i = length field - i
 
-returns : tie.Need-returns Inv-loop μ-loop
-returns c = search needs
-
 loop-holds : tie.Need-loop-holds Inv-loop μ-loop
 loop-holds c = search needs
 
@@ -23,20 +20,17 @@ shared-slice-read-digit c = search needs
 digit-requires : tie.Need-digit-requires Inv-loop μ-loop
 digit-requires c κs = search needs
 
+returns : tie.Need-returns Inv-loop μ-loop
+returns c = search needs
+
+mul-if2 : tie.Need-mul-if2 Inv-loop μ-loop
+mul-if2 c = search needs
+
+sub-if2 : tie.Need-sub-if2 Inv-loop μ-loop
+sub-if2 c = search needs
+
 returns-2 : tie.Need-returns-2 Inv-loop μ-loop
 returns-2 c = search needs
-
-returns-3 : tie.Need-returns-3 Inv-loop μ-loop
-returns-3 c = search needs
-
-mul-if4 : tie.Need-mul-if4 Inv-loop μ-loop
-mul-if4 c = search needs
-
-sub-if4 : tie.Need-sub-if4 Inv-loop μ-loop
-sub-if4 c = search needs
-
-returns-4 : tie.Need-returns-4 Inv-loop μ-loop
-returns-4 c = search needs
 
 mul-value : tie.Need-mul-value Inv-loop μ-loop
 mul-value c = search needs
@@ -53,8 +47,8 @@ loop-less c = search needs
 loop-again : tie.Need-loop-again Inv-loop μ-loop
 loop-again c = search needs
 
-returns-5 : tie.Need-returns-5 Inv-loop μ-loop
-returns-5 c = search needs
+returns-3 : tie.Need-returns-3 Inv-loop μ-loop
+returns-3 c = search needs
 
 pub number-spec : {M : Type 1} → statement M
 number-spec =
@@ -62,18 +56,16 @@ number-spec =
     (tie.spec
     Inv-loop
     μ-loop
-    returns
     loop-holds
     shared-slice-read-digit
     digit-requires
+    returns
+    mul-if2
+    sub-if2
     returns-2
-    returns-3
-    mul-if4
-    sub-if4
-    returns-4
     mul-value
     add-value
     add-i
     loop-less
     loop-again
-    returns-5)
+    returns-3)
