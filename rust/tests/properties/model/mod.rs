@@ -1,6 +1,7 @@
 //! The gather as the paper defines it, plain and slow.
 //!
-//! It is written from the paper alone, so that it errs in other places than the archive does.
+//! It was written from the paper and the readings in docs/DECISIONS.md, without sight of the Rattle,
+//! so that it errs in other places than the archive does.
 
 mod blank;
 mod refusals;
