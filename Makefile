@@ -1,8 +1,9 @@
 # make demo: builds the archive, compiles the example against it, and runs it. make test: what the gate runs beside the proofs.
+# make bench: the archive against the loops of the Rust, timed; make instructions: the same, counted by callgrind.
 archive = target/staticlib/libhoglidra.a
 compile = $(CC) -std=c99 -pedantic -Wall -Wextra -Werror -O2 -Iinclude
 
-.PHONY: demo test test-archive test-c test-demo test-rust
+.PHONY: demo test test-archive test-c test-demo test-rust bench instructions
 demo: target/ingredients
 	target/ingredients
 
@@ -27,6 +28,13 @@ test-demo: target/ingredients
 # The archive against a model that was written without sight of the Rattle, and the examples of the Rust documentation.
 test-rust: $(archive)
 	cd rust && RUSTFLAGS='-D warnings' cargo test --offline
+
+# The machine should have nothing else to do.
+bench: $(archive)
+	cd rust && cargo bench --offline
+
+instructions: $(archive)
+	cd rust && cargo bench --offline -- --instructions
 
 $(archive): crates.txt $(shell find crates -name '*.rt' -o -name '*.antt')
 	@mkdir -p target
