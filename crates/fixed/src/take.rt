@@ -1,4 +1,5 @@
-// The taken values of the columns of fixed width. Those whose rows are blocks of bytes differ in what a null index copies.
+// The taken values of the columns of fixed width. Those whose rows are blocks of bytes differ in what a null index copies. Where it copies, `outside`
+// says whether some number, also one under a null index, is that of no row.
 use crate::dispatch::take_blocks;
 use selection::bit::take_bits;
 use tables::table::Indices;
@@ -14,7 +15,7 @@ ghost use Rattle.tables.specs.Kinds.{copiesUnderNull};
 ghost use Rattle.tables.specs.Columns.{indexColumnAt};
 ghost use Rattle.tables.specs.Answers.{passes};
 ghost use Rattle.tables.specs.Refusals.{indexRefusal};
-ghost use Rattle.gathers.specs.Buffers.{takenBit, takenBlock};
+ghost use Rattle.gathers.specs.Buffers.{takenBit, someOutside, takenBlock};
 ghost use Rattle.selection.specs.Reach.{Reaches};
 ghost use Rattle.blocks.specs.Blocked.{Blocked};
 
@@ -26,19 +27,25 @@ pub fn take_native(
     indices: Indices,
     index_data: &[u8],
     index_validity: &[u8],
+    outside: bool,
     out: &mut [u8],
 )
     requires { ⌜ Blocked width rows (indexColumnAt indices «index_data» «index_validity») (now values) (now out) ⌝ }
+    requires { ⌜ outside ≡ someOutside rows (indexColumnAt indices «index_data» «index_validity») ⌝ }
     ensures { λ _. ⌜ now (out .exit) ≡ overwrite (concat (indices .count) (takenBlock true rows width (now (values .entry)) (indexColumnAt indices («index_data» .entry) («index_validity» .entry)))) (now (out .entry)) ⌝ }
 {
+    let under_null = true;
     take_blocks(
         values,
         width,
         rows,
-        true,
-        indices,
+        under_null,
+        indices.width,
+        indices.count,
+        indices.validity_bit,
         index_data,
         index_validity,
+        outside,
         out,
     );
 }
@@ -51,9 +58,11 @@ pub fn take_fixed_size_binary(
     indices: Indices,
     index_data: &[u8],
     index_validity: &[u8],
+    outside: bool,
     out: &mut [u8],
 )
     requires { ⌜ Blocked size rows (indexColumnAt indices «index_data» «index_validity») (now values) (now out) ⌝ }
+    requires { ⌜ outside ≡ someOutside rows (indexColumnAt indices «index_data» «index_validity») ⌝ }
     ensures { λ _. ⌜ now (out .exit) ≡ overwrite (concat (indices .count) (takenBlock (copiesUnderNull FixedSizeBinary size) rows size (now (values .entry)) (indexColumnAt indices («index_data» .entry) («index_validity» .entry)))) (now (out .entry)) ⌝ }
 {
     let under_null = (size == 1) | (size == 2) | (size == 4) | (size == 8) | (size == 16);
@@ -62,9 +71,12 @@ pub fn take_fixed_size_binary(
         size,
         rows,
         under_null,
-        indices,
+        indices.width,
+        indices.count,
+        indices.validity_bit,
         index_data,
         index_validity,
+        outside,
         out,
     );
 }
@@ -83,14 +95,18 @@ pub fn take_fixed_size_list_primitive(
     requires { ⌜ Blocked (size * width) rows (indexColumnAt indices «index_data» «index_validity») (now values) (now out) ⌝ }
     ensures { λ _. ⌜ now (out .exit) ≡ overwrite (concat (indices .count) (takenBlock false rows (size * width) (now (values .entry)) (indexColumnAt indices («index_data» .entry) («index_validity» .entry)))) (now (out .entry)) ⌝ }
 {
+    let under_null = false;
     take_blocks(
         values,
         size * width,
         rows,
-        false,
-        indices,
+        under_null,
+        indices.width,
+        indices.count,
+        indices.validity_bit,
         index_data,
         index_validity,
+        true,
         out,
     );
 }

@@ -1,113 +1,151 @@
--- The gather by what its stages answer: the law that `take` cites at each return. Assumes nothing.
+-- The first refusal and the gather by what the stages answer: the laws that `check` and `take` cite at each return. Assumes nothing.
 use mathlib.Core.Path.{_≡_, sym, ap, _∙_, subst}
-use mathlib.Core.Bool.{true, false}
+use mathlib.Core.Bool.{Bool, true, false}
 use mathlib.Core.List.{List}
 use Prim.Native.Nat.{ℕ, _≤_}
 use lib.ListN.{length}
 use Rattle.bits.specs.Bytes.{overwrite}
 use Rattle.tables.specs.declared.refusal.Answer.{Answer}
 use Rattle.tables.specs.declared.refusal.Checked.{Checked}
-use Rattle.tables.specs.declared.refusal.Checked.the-variants.{Fit, Unfit}
+use Rattle.tables.specs.declared.refusal.Checked.the-variants.{Fit as FitStage, Unfit as UnfitStage}
 use Rattle.tables.specs.declared.refusal.Refusal.{Refusal}
+use Rattle.tables.specs.declared.table.Layout.{Layout}
 use Rattle.tables.specs.Columns.{Column, IndexColumn, layoutAt}
-use Rattle.tables.specs.Answers.{passes, _orElse_, checkedNumbers}
+use Rattle.tables.specs.Answers.{passes, checkedNumbers, firstOf}
 use Rattle.tables.specs.Refusals.{indexRefusal, formRefusal, WellFormed}
 use Rattle.tables.specs.Rows.{Rows, rowsOf}
 use Rattle.gathers.specs.Taken.{takeRows}
 use Rattle.gathers.specs.Stored.{Output, validityBytes, valueBytes, validityLength, offsetLength, valueLength, nullCount, storeOffsets}
-use Rattle.gathers.specs.Gather.{rangeRefusal, overflowRefusal, measured, spaceRefusal, Outcome, gather}
+use Rattle.gathers.specs.Gather.{rangeRefusal, overflowRefusal, measured, spaceRefusal, refusals, Outcome, gather}
 use Rattle.gathers.specs.Ready.{Ready}
+use Rattle.gathers.specs.Buffers.{someOutside}
 use Rattle.gathers.specs.Blank.{blank}
 use Rattle.variable.specs.declared.total.Measured.{Measured}
 use Rattle.variable.specs.declared.total.Measured.the-variants.{Bytes, Unfit as UnfitRuns}
 use Rattle.variable.specs.Measured.{measuredNumbers}
-use Rattle.tables.specs.declared.table.Layout.{Layout}
+use Rattle.hoglidra.specs.declared.check.Passed.{Passed}
+use Rattle.hoglidra.specs.declared.check.Passed.the-variants.{Fit, Unfit}
+use Rattle.hoglidra.specs.Passed.{passedNumbers, unfitOf, overflowedOf, Told}
 use Rattle.stages.proofs.Spaces.{rows-layout}
 use Rattle.tables.proofs.Stages.{refusing, form-passed}
-use Rattle.gathers.proofs.Stages.{gather-stages, at-tests, at-overflow, at-space, at-stored, enough, measured-refused, measured-total, stored-by, gathered-by}
+use Rattle.gathers.proofs.Stages.{Passed as AllPassed, all-passed, stops-form, stops-range, stops-overflow, ends-space, gather-refused, gather-stored, enough, measured-refused, measured-total, stored-by, gathered-by}
 use Rattle.gathers.proofs.Blanked.{gather-blank}
 
 -- the numbers of a refusal
-refuses : {s : Checked} {r : Refusal} {a : Answer} → checkedNumbers s ≡ a → s ≡ Unfit r → passes a ≡ false
+refuses : {s : Checked} {r : Refusal} {a : Answer} → checkedNumbers s ≡ a → s ≡ UnfitStage r → passes a ≡ false
 refuses {r = r} e f = rw (sym e, f) (refusing r)
 
-lets-pass : {s : Checked} {a : Answer} → checkedNumbers s ≡ a → s ≡ Fit → passes a ≡ true
+lets-pass : {s : Checked} {a : Answer} → checkedNumbers s ≡ a → s ≡ FitStage → passes a ≡ true
 lets-pass e f = ap passes (sym e ∙ ap checkedNumbers f)
 
 module _ (c : Column) (x : IndexColumn) where
   abbrev v : Rows
   v = takeRows (rowsOf c) x
 
-  abbrev tests : Answer
-  tests = formRefusal c x orElse rangeRefusal (c .table .rows) x
+  -- ---- the tests, stage by stage
+
+  -- what a test that goes up unchanged says
+  abbrev Answers : Output → Passed → Type 0
+  Answers o p = (passedNumbers p ≡ firstOf (refusals c x o)) × Told c x p
+
+  answers : (o : Output) {p q : Passed} → p ≡ q → Answers o q → Answers o p
+  answers o {p} {q} e a = subst (Answers o) (sym e) a
+
+  stopped : (o : Output) {s : Checked} {r : Refusal} {p : Passed} {a : Answer} → checkedNumbers s ≡ a → s ≡ UnfitStage r → p ≡ unfitOf s
+      → a ≡ firstOf (refusals c x o) → Answers o p
+  stopped o {r = r} e f d g = answers o (d ∙ ap unfitOf f) (sym (ap checkedNumbers f) ∙ e ∙ g, tt)
+
+  pub form-refused : (o : Output) {s : Checked} {r : Refusal} {p : Passed} → checkedNumbers s ≡ formRefusal c x → s ≡ UnfitStage r → p ≡ unfitOf s → Answers o p
+  form-refused o e f d = stopped o e f d (stops-form c x o (refuses e f))
+
+  module _ {s : Checked} (se : checkedNumbers s ≡ formRefusal c x) (sf : s ≡ FitStage) where
+    form : passes (formRefusal c x) ≡ true
+    form = lets-pass se sf
+
+    pub indices-passed : passes (indexRefusal x) ≡ true
+    indices-passed = form-passed c x form .1
+
+    pub range-refused : (o : Output) {t : Checked} {r : Refusal} {p : Passed} → checkedNumbers t ≡ rangeRefusal (c .table .rows) x → t ≡ UnfitStage r → p ≡ unfitOf t
+        → Answers o p
+    range-refused o e f d = stopped o e f d (stops-range c x o form (refuses e f))
+
+    module _ {t : Checked} (te : checkedNumbers t ≡ rangeRefusal (c .table .rows) x) (tf : t ≡ FitStage) where
+      range : passes (rangeRefusal (c .table .rows) x) ≡ true
+      range = lets-pass te tf
+
+      pub tested : Ready c x
+      tested = record { column = form-passed c x form .0; indices = record { passed = indices-passed; range = range } }
+
+      pub overflow-refused : (o : Output) {m : Measured} {r : Refusal} {p : Passed} → measuredNumbers m ≡ measured v → m ≡ UnfitRuns r → p ≡ overflowedOf m → Answers o p
+      overflow-refused o {r = r} e f d =
+          let m = measured-refused v (rw (sym e, f) (refusing r)) in
+          answers o (d ∙ ap overflowedOf f) (sym (ap measuredNumbers f) ∙ e ∙ m .1 ∙ stops-overflow c x o form range (m .0), tt)
+
+      module _ {m : Measured} {total : ℕ} (me : measuredNumbers m ≡ measured v) (mf : m ≡ Bytes total) where
+        counted : (passes (overflowRefusal v) ≡ true) × (total ≡ valueLength (v .layout) v)
+        counted = measured-total v (sym (ap measuredNumbers mf) ∙ me)
+
+        pub needs-total : total ≡ valueLength (v .layout) v
+        needs-total = counted .1
+
+        module _ (o : Output) {w : Checked} (we : checkedNumbers w ≡ spaceRefusal v o) where
+          pub space-refused : {r : Refusal} {p : Passed} → w ≡ UnfitStage r → p ≡ unfitOf w → Answers o p
+          space-refused f d = stopped o we f d (ends-space c x o form range (counted .0))
+
+          pub all-tested : {outside : Bool} → w ≡ FitStage → outside ≡ someOutside (c .table .rows) x → Answers o (Fit total outside)
+          all-tested f d = (sym (ap checkedNumbers f) ∙ we ∙ ends-space c x o form range (counted .0), (needs-total, d))
+
+  -- ---- the gather, by what the tests answer
 
   -- demand 3: the definition's outcome is its outcome on the blanked table
   pub both : (o : Output) {g : Outcome} → g ≡ gather c x o → (g ≡ gather c x o) × (WellFormed c → g ≡ gather (blank c x) x o)
   both o e = (e, λ w. e ∙ gather-blank c x w o)
 
-  pub form-refused : (o : Output) {s : Checked} {r : Refusal} {a : Answer} → checkedNumbers s ≡ formRefusal c x → s ≡ Unfit r → a ≡ checkedNumbers s
-      → record { answer = a; output = o } ≡ gather c x o
-  form-refused o e f d =
-      let n : passes (formRefusal c x) ≡ false = refuses e f in
-      let t : tests ≡ formRefusal c x = rw n in
-      rw (d, e, gather-stages c x o, t) (sym (at-tests (formRefusal c x) v o n))
+  module _ (o : Output) {p : Passed} (e : Answers o p) where
+    pub turned-away : {r : Refusal} {a : Answer} → p ≡ Unfit r → a ≡ passedNumbers p → record { answer = a; output = o } ≡ gather c x o
+    turned-away {r} f d = gather-refused c x o (d ∙ e .0) (rw (d, f) (refusing r))
 
-  module _ {s : Checked} (se : checkedNumbers s ≡ formRefusal c x) (sf : s ≡ Fit) where
-    tests-range : tests ≡ rangeRefusal (c .table .rows) x
-    tests-range = rw (lets-pass se sf)
+    module _ {total : ℕ} {outside : Bool} (f : p ≡ Fit total outside) where
+      passed : passes (firstOf (refusals c x o)) ≡ true
+      passed = ap passes (sym (e .0) ∙ ap passedNumbers f)
 
-    pub indices-passed : passes (indexRefusal x) ≡ true
-    indices-passed = form-passed c x (lets-pass se sf) .1
+      stages : AllPassed c x o
+      stages = all-passed c x o passed
 
-    pub range-refused : (o : Output) {t : Checked} {r : Refusal} {a : Answer} → checkedNumbers t ≡ rangeRefusal (c .table .rows) x → t ≡ Unfit r → a ≡ checkedNumbers t
-        → record { answer = a; output = o } ≡ gather c x o
-    range-refused o e f d = rw (d, e, gather-stages c x o, tests-range) (sym (at-tests (rangeRefusal (c .table .rows) x) v o (refuses e f)))
+      told : (total ≡ valueLength (rowsOf c .layout) v) × (outside ≡ someOutside (c .table .rows) x)
+      told = subst (Told c x) f (e .1)
 
-    module _ {t : Checked} (te : checkedNumbers t ≡ rangeRefusal (c .table .rows) x) (tf : t ≡ Fit) where
       pub ready : Ready c x
-      ready = record { column = form-passed c x (lets-pass se sf) .0; indices = record { passed = indices-passed; range = lets-pass te tf } }
+      ready =
+          let form = form-passed c x (stages .form) in
+          record { column = form .0; indices = record { passed = form .1; range = stages .range } }
 
-      passed : passes tests ≡ true
-      passed = rw tests-range (lets-pass te tf)
+      pub outside-told : outside ≡ someOutside (c .table .rows) x
+      outside-told = told .1
 
-      pub overflow-refused : (o : Output) {m : Measured} {r : Refusal} {a : Answer} → measuredNumbers m ≡ measured v → m ≡ UnfitRuns r → a ≡ measuredNumbers m
-          → record { answer = a; output = o } ≡ gather c x o
-      overflow-refused o {r = r} e f d =
-          let m = measured-refused v (rw (sym e, f) (refusing r)) in
-          rw (d, e, m .1, gather-stages c x o) (sym (at-overflow tests v o passed (m .0)))
+      pub overflow-passed : passes (overflowRefusal v) ≡ true
+      overflow-passed = stages .overflow
 
-      module _ {m : Measured} {total : ℕ} (me : measuredNumbers m ≡ measured v) (mf : m ≡ Bytes total) where
-        told : (passes (overflowRefusal v) ≡ true) × (total ≡ valueLength (v .layout) v)
-        told = measured-total v (sym (ap measuredNumbers mf) ∙ me)
+      room : (validityLength v ≤ length (o .validity)) × (offsetLength (v .layout) v ≤ length (o .offsets)) × (valueLength (v .layout) v ≤ length (o .values))
+      room = enough v o (stages .space)
 
-        pub needs-total : total ≡ valueLength (v .layout) v
-        needs-total = told .1
+      pub validity-room : validityLength v ≤ length (o .validity)
+      validity-room = room .0
 
-        module _ (o : Output) {w : Checked} (we : checkedNumbers w ≡ spaceRefusal v o) where
-          pub space-refused : {r : Refusal} {a : Answer} → w ≡ Unfit r → a ≡ checkedNumbers w → record { answer = a; output = o } ≡ gather c x o
-          space-refused f d = rw (d, we, gather-stages c x o) (sym (at-space tests v o passed (told .0) (refuses we f)))
+      pub data-room : (offsetLength (layoutAt c) v ≤ length (o .offsets)) × (valueLength (layoutAt c) v ≤ length (o .values))
+      data-room =
+          let l : rowsOf c .layout ≡ layoutAt c = rows-layout c in
+          (subst (λ (k : Layout). offsetLength k v ≤ length (o .offsets)) l (room .1), subst (λ (k : Layout). valueLength k v ≤ length (o .values)) l (room .2))
 
-          module _ (wf : w ≡ Fit) where
-            room : (validityLength v ≤ length (o .validity)) × (offsetLength (v .layout) v ≤ length (o .offsets)) × (valueLength (v .layout) v ≤ length (o .values))
-            room = enough v o (lets-pass we wf)
-
-            pub validity-room : validityLength v ≤ length (o .validity)
-            validity-room = room .0
-
-            pub data-room : (offsetLength (layoutAt c) v ≤ length (o .offsets)) × (valueLength (layoutAt c) v ≤ length (o .values))
-            data-room =
-                let e : rowsOf c .layout ≡ layoutAt c = rows-layout c in
-                (subst (λ (l : Layout). offsetLength l v ≤ length (o .offsets)) e (room .1), subst (λ (l : Layout). valueLength l v ≤ length (o .values)) e (room .2))
-
-            pub all-stored : {nulls : ℕ} {a b d : List ℕ} → nulls ≡ nullCount v → a ≡ overwrite (validityBytes v) (o .validity)
-                → b ≡ storeOffsets (layoutAt c) v (o .offsets) → d ≡ overwrite (valueBytes (layoutAt c) v) (o .values)
-                → record {
-                  answer = record { number = 0; place = 0; total = total; nulls = nulls };
-                  output = record { validity = a; offsets = b; values = d };
-                }
-                ≡ gather c x o
-            all-stored n ha hb hd =
-                let e : layoutAt c ≡ rowsOf c .layout = sym (rows-layout c) in
-                let kb = hb ∙ ap (λ (l : Layout). storeOffsets l v (o .offsets)) e in
-                let kd = hd ∙ ap (λ (l : Layout). overwrite (valueBytes l v) (o .values)) e in
-                rw (gathered-by v needs-total n, stored-by v o ha kb kd, gather-stages c x o) (sym (at-stored tests v o passed (told .0) (lets-pass we wf)))
+      pub all-stored : {nulls : ℕ} {a b d : List ℕ} → nulls ≡ nullCount v → a ≡ overwrite (validityBytes v) (o .validity)
+          → b ≡ storeOffsets (layoutAt c) v (o .offsets) → d ≡ overwrite (valueBytes (layoutAt c) v) (o .values)
+          → record {
+            answer = record { number = 0; place = 0; total = total; nulls = nulls };
+            output = record { validity = a; offsets = b; values = d };
+          }
+          ≡ gather c x o
+      all-stored n ha hb hd =
+          let l : layoutAt c ≡ rowsOf c .layout = sym (rows-layout c) in
+          let kb = hb ∙ ap (λ (k : Layout). storeOffsets k v (o .offsets)) l in
+          let kd = hd ∙ ap (λ (k : Layout). overwrite (valueBytes k v) (o .values)) l in
+          rw (gathered-by v (told .0) n, stored-by v o ha kb kd) (gather-stored c x o passed)

@@ -1,3 +1,4 @@
 pub mod Answered
 pub mod Row
 pub mod Entry
+pub mod Passed

@@ -1,13 +1,11 @@
 // The answer of a gather: an enum, and the paper's four numbers of each of its cases.
+use crate::check::Passed;
 use tables::refusal::Answer;
-use tables::refusal::Checked;
 use tables::refusal::Refusal;
 use tables::refusal::refusal_numbers;
-use variable::total::Measured;
 ghost use mathlib.Core.Path.{_≡_};
-ghost use Rattle.tables.specs.Answers.{checkedNumbers};
-ghost use Rattle.variable.specs.Measured.{measuredNumbers};
 ghost use Rattle.hoglidra.specs.Answered.{answeredNumbers};
+ghost use Rattle.hoglidra.specs.Passed.{passedNumbers};
 
 // Gathered: `total` data bytes were written, and `nulls` of the rows are null. Refused: nothing was written.
 pub enum Answered {
@@ -29,21 +27,15 @@ pub fn answered_numbers(answered: Answered) -> Answer
     }
 }
 
-// A stage's refusal, passed up unchanged.
-pub fn refused(checked: Checked) -> Answered
-    ensures { λ r. ⌜ answeredNumbers r ≡ checkedNumbers checked ⌝ }
+// A refusal, passed up unchanged.
+pub fn refused(passed: Passed) -> Answered
+    ensures { λ r. ⌜ answeredNumbers r ≡ passedNumbers passed ⌝ }
 {
-    match checked {
-        Checked::Fit => Answered::Gathered { total: 0, nulls: 0 },
-        Checked::Unfit(refusal) => Answered::Refused(refusal),
-    }
-}
-
-pub fn overflowed(measured: Measured) -> Answered
-    ensures { λ r. ⌜ answeredNumbers r ≡ measuredNumbers measured ⌝ }
-{
-    match measured {
-        Measured::Bytes(total) => Answered::Gathered { total, nulls: 0 },
-        Measured::Unfit(refusal) => Answered::Refused(refusal),
+    match passed {
+        Passed::Fit {
+            total: _,
+            outside: _,
+        } => Answered::Gathered { total: 0, nulls: 0 },
+        Passed::Unfit(refusal) => Answered::Refused(refusal),
     }
 }

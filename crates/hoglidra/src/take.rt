@@ -1,20 +1,13 @@
 // The gather of a column by an index column, Rust's `take` with `check_bounds`: refused with the first of the paper's numbers that is met, and
 // then no output byte changes; or gathered. Any numbers, any buffers and any lent outputs may be handed in.
 use crate::answer::Answered;
-use crate::answer::overflowed;
 use crate::answer::refused;
-use checks::columns::check_columns;
-use selection::bounds::check_bounds;
+use crate::check::Passed;
+use crate::check::check;
 use selection::null::take_nulls;
-use stages::measure::measure;
-use stages::space::Lengths;
-use stages::space::check_space;
-use stages::space::needed_lengths;
 use stages::values::take_values;
-use tables::refusal::Checked;
 use tables::table::Indices;
 use tables::table::Table;
-use variable::total::Measured;
 ghost use mathlib.Core.Path.{_≡_};
 ghost use Rattle.tables.specs.Columns.{columnAt, indexColumnAt};
 ghost use Rattle.tables.specs.Refusals.{WellFormed};
@@ -44,7 +37,7 @@ pub fn take(
         (indexColumnAt indices («index_data» .entry) («index_validity» .entry))
         (outputAt («out_validity» .entry) («out_offsets» .entry) («out_data» .entry))) ⌝ }
 {
-    let formed = check_columns(
+    let passed = check(
         table,
         data,
         offsets,
@@ -52,35 +45,12 @@ pub fn take(
         indices,
         index_data,
         index_validity,
+        out_validity,
+        out_offsets,
+        out_data,
     );
-    let Checked::Fit = formed else {
-        return refused(formed);
-    };
-    let ranged = check_bounds(table.rows, indices, index_data, index_validity);
-    let Checked::Fit = ranged else {
-        return refused(ranged);
-    };
-    let measured = measure(
-        table,
-        data,
-        offsets,
-        validity,
-        indices,
-        index_data,
-        index_validity,
-    );
-    let Measured::Bytes(total) = measured else {
-        return overflowed(measured);
-    };
-    let lent = Lengths {
-        validity: out_validity.len() as u64,
-        offsets: out_offsets.len() as u64,
-        values: out_data.len() as u64,
-    };
-    let needed = needed_lengths(table, indices.count, total);
-    let spaced = check_space(needed, lent);
-    let Checked::Fit = spaced else {
-        return refused(spaced);
+    let Passed::Fit { total, outside } = passed else {
+        return refused(passed);
     };
     let nulls = take_nulls(
         validity,
@@ -98,6 +68,8 @@ pub fn take(
         indices,
         index_data,
         index_validity,
+        outside,
+        out_validity,
         out_offsets,
         out_data,
     );

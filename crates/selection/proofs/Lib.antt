@@ -1,4 +1,5 @@
 pub mod Range
+pub mod Above
 pub mod Reading
 pub mod Validity
 pub mod Ones

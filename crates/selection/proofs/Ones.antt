@@ -1,15 +1,14 @@
--- The words and bytes of a fill with ones: as many as are left after the first 8 * k of n bits. Assumes nothing.
+-- The words of a fill with ones: as many as are left after the first 8 * k of n bits. Assumes nothing.
 use mathlib.Core.Path.{_≡_, refl, sym, _∙_}
 use mathlib.Core.Bool.{Bool, true, false, _&&_}
-use Prim.Native.Nat.{ℕ, _+_, _-_, _*_, _%_}
+use Prim.Native.Nat.{ℕ, _+_, _-_, _*_}
 use native.Mathlib.Omega.{arith}
 use lib.Dec.{ltb}
 use borrow.Author.Tests.{ltb-true, ltb-false, lt-ltb, le-ltb}
 use Rattle.bits.specs.Numbers.{toLittleEndian}
-use Rattle.bits.specs.Bits.{byteOf, packBytes}
+use Rattle.bits.specs.Bits.{packBytes}
 use Rattle.bits.proofs.Tests.{and-right}
-use Rattle.bits.proofs.Bits.{byteOf-cong, packBytes-cong}
-use Rattle.bits.proofs.Words.{packed-low}
+use Rattle.bits.proofs.Bits.{packBytes-cong}
 
 module _ (n k y : ℕ) (e : toLittleEndian 8 y ≡ packBytes 8 (λ t. ltb t (n - 8 * k))) where
   left : (t : ℕ) → ltb t (n - 8 * k) ≡ (ltb (8 * k + t) n && true)
@@ -21,6 +20,3 @@ module _ (n k y : ℕ) (e : toLittleEndian 8 y ≡ packBytes 8 (λ t. ltb t (n -
 
   pub ones-left : toLittleEndian 8 y ≡ packBytes 8 (λ t. ltb (8 * k + t) n && true)
   ones-left = e ∙ packBytes-cong 8 (λ t h. left t)
-
-  pub low-ones-left : y % 256 ≡ byteOf (λ t. ltb (8 * k + t) n && true)
-  low-ones-left = packed-low 7 y (λ t. ltb t (n - 8 * k)) e ∙ byteOf-cong (λ t h. left t)

@@ -7,7 +7,7 @@ use buffers::bit::count_set_bits;
 use buffers::bit::pack_bits;
 use tables::table::Indices;
 ghost use mathlib.Core.Path.{_≡_};
-ghost use mathlib.Core.Bool.{true, false, not};
+ghost use mathlib.Core.Bool.{true, false, not, _&&_};
 ghost use Prim.Native.Nat.{_^_, _≤_, _<_};
 ghost use lib.Dec.{ltb};
 ghost use lib.ListN.{length};
@@ -33,7 +33,7 @@ fn ones(left: usize) -> u64
     all >> (64 - left)
 }
 
-// Sets the first n bits of out, and clears the spare bits of their last byte: eight bytes a turn, then single bytes.
+// Sets the first n bits of out, and clears the spare bits of their last byte: eight bytes a turn, then the bytes of the last word.
 // A turn's word depends on what is left: the store of a constant would compile to a call of the C library's `memset`.
 fn set_bits(n: usize, out: &mut [u8])
     requires { ⌜ (n < 2 ^ 60) × (bytesFor n ≤ length (now out)) ⌝ }
@@ -45,13 +45,18 @@ fn set_bits(n: usize, out: &mut [u8])
         write_u64(out, k, ones(n - 8 * k));
         k += 8;
     }
+    if bytes <= k {
+        return;
+    }
+    let mut word = ones(n - 8 * k);
     while k < bytes {
-        out[k] = low(ones(n - 8 * k));
+        out[k] = low(word);
+        word = word / 256;
         k += 1;
     }
 }
 
-// Writes the validity of the taken rows.
+// Writes the validity of the taken rows, where the rows or the indices have one.
 fn take_validity(
     validity: &[u8],
     bit_offset: usize,
@@ -62,6 +67,7 @@ fn take_validity(
 )
     requires { ⌜ passes (indexRefusal (indexColumnAt indices «index_data» «index_validity»)) ≡ true ⌝ }
     requires { ⌜ (isAbsent (now validity) ≡ false → Reaches «bit_offset» (now validity) (indexColumnAt indices «index_data» «index_validity»)) ⌝ }
+    requires { ⌜ (isAbsent (now validity) && isAbsent (now «index_validity»)) ≡ false ⌝ }
     requires { ⌜ bytesFor (indices .count) ≤ length (now out) ⌝ }
     ensures { λ _. ⌜ now (out .exit) ≡ overwrite (pack (indices .count) (takenBitValid (now (validity .entry)) «bit_offset» (indexColumnAt indices («index_data» .entry) («index_validity» .entry)))) (now (out .entry)) ⌝ }
 {
@@ -76,15 +82,15 @@ fn take_validity(
         );
         return;
     }
-    let count = indices.count as usize;
-    if index_validity.len() != 0 {
-        pack_bits(index_validity, indices.validity_bit as usize, count, out);
-        return;
-    }
-    set_bits(count, out);
+    pack_bits(
+        index_validity,
+        indices.validity_bit as usize,
+        indices.count as usize,
+        out,
+    );
 }
 
-// Writes the validity of the taken rows, and counts the null ones.
+// Writes the validity of the taken rows, and counts the null ones. Where neither the rows nor the indices have one, there are none to count.
 pub fn take_nulls(
     validity: &[u8],
     bit_offset: usize,
@@ -99,6 +105,11 @@ pub fn take_nulls(
     ensures { λ r. ⌜ r ≡ sum (indices .count) (λ j. bitValue (not (takenBitValid (now (validity .entry)) «bit_offset» (indexColumnAt indices («index_data» .entry) («index_validity» .entry)) j))) ⌝ }
     ensures { λ _. ⌜ now (out .exit) ≡ overwrite (pack (indices .count) (takenBitValid (now (validity .entry)) «bit_offset» (indexColumnAt indices («index_data» .entry) («index_validity» .entry)))) (now (out .entry)) ⌝ }
 {
+    let count = indices.count as usize;
+    if (validity.len() == 0) & (index_validity.len() == 0) {
+        set_bits(count, out);
+        return 0;
+    }
     take_validity(
         validity,
         bit_offset,
@@ -107,6 +118,5 @@ pub fn take_nulls(
         index_validity,
         out,
     );
-    let count = indices.count as usize;
     indices.count - count_set_bits(out, (count + 7) / 8)
 }

@@ -1,4 +1,5 @@
-// The offsets and the data of the taken rows, by the kind. What a kind does not write is kept.
+// The offsets and the data of the taken rows, by the kind. What a kind does not write is kept. `outside` says whether some number of the indices is that
+// of no row, and `valid` begins with the validity of the taken rows, which is written before.
 use fixed::take::take_boolean;
 use fixed::take::take_fixed_size_binary;
 use fixed::take::take_fixed_size_list_primitive;
@@ -10,14 +11,18 @@ use tables::table::kind_of;
 use variable::run::take_bytes;
 use variable::run::take_list;
 ghost use mathlib.Core.Path.{_≡_};
+ghost use mathlib.Core.Bool.{true};
 ghost use Prim.Native.Nat.{_≤_};
 ghost use lib.ListN.{length};
 ghost use Rattle.bits.specs.Bytes.{overwrite};
 ghost use Rattle.tables.specs.Columns.{columnAt, indexColumnAt, layoutAt};
+ghost use Rattle.tables.specs.Answers.{passes};
 ghost use Rattle.tables.specs.Rows.{rowsOf};
 ghost use Rattle.gathers.specs.Taken.{takeRows};
 ghost use Rattle.gathers.specs.Stored.{offsetLength, valueBytes, valueLength, storeOffsets};
+ghost use Rattle.gathers.specs.Gather.{overflowRefusal};
 ghost use Rattle.gathers.specs.Ready.{Ready};
+ghost use Rattle.gathers.specs.Buffers.{Validates, someOutside};
 
 pub fn take_values(
     table: Table,
@@ -27,12 +32,17 @@ pub fn take_values(
     indices: Indices,
     index_data: &[u8],
     index_validity: &[u8],
+    outside: bool,
+    valid: &[u8],
     out_offsets: &mut [u8],
     out_data: &mut [u8],
 )
     requires { ⌜ Ready (columnAt table «data» offsets validity) (indexColumnAt indices «index_data» «index_validity») ⌝ }
     requires { ⌜ (offsetLength (layoutAt (columnAt table «data» offsets validity)) (takeRows (rowsOf (columnAt table «data» offsets validity)) (indexColumnAt indices «index_data» «index_validity»)) ≤ length (now «out_offsets»))
         × (valueLength (layoutAt (columnAt table «data» offsets validity)) (takeRows (rowsOf (columnAt table «data» offsets validity)) (indexColumnAt indices «index_data» «index_validity»)) ≤ length (now «out_data»)) ⌝ }
+    requires { ⌜ outside ≡ someOutside (table .rows) (indexColumnAt indices «index_data» «index_validity») ⌝ }
+    requires { ⌜ passes (overflowRefusal (takeRows (rowsOf (columnAt table «data» offsets validity)) (indexColumnAt indices «index_data» «index_validity»))) ≡ true ⌝ }
+    requires { ⌜ Validates (now validity) (table .«validity_bit») (indexColumnAt indices «index_data» «index_validity») (now valid) ⌝ }
     ensures { λ _. ⌜ now («out_offsets» .exit) ≡ storeOffsets (layoutAt (columnAt table («data» .entry) (offsets .entry) (validity .entry)))
         (takeRows (rowsOf (columnAt table («data» .entry) (offsets .entry) (validity .entry))) (indexColumnAt indices («index_data» .entry) («index_validity» .entry))) (now («out_offsets» .entry)) ⌝ }
     ensures { λ _. ⌜ now («out_data» .exit) ≡ overwrite (valueBytes (layoutAt (columnAt table («data» .entry) (offsets .entry) (validity .entry)))
@@ -51,6 +61,7 @@ pub fn take_values(
                 indices,
                 index_data,
                 index_validity,
+                outside,
                 out_data,
             )
         }
@@ -72,6 +83,7 @@ pub fn take_values(
             indices,
             index_data,
             index_validity,
+            valid,
             out_offsets,
             out_data,
         ),
@@ -83,6 +95,7 @@ pub fn take_values(
             indices,
             index_data,
             index_validity,
+            valid,
             out_offsets,
             out_data,
         ),
@@ -104,6 +117,7 @@ pub fn take_values(
                 indices,
                 index_data,
                 index_validity,
+                outside,
                 out_data,
             )
         }

@@ -1,3 +1,5 @@
-pub mod Reading
+pub mod Masking
 pub mod Counting
-pub mod Filling
+pub mod Showing
+pub mod Starting
+pub mod Copying

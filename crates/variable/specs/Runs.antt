@@ -5,13 +5,12 @@ use mathlib.Core.Bool.{Bool, true, false}
 use Rattle.tables.specs.declared.table.Layout.the-variants.{Runs}
 use Rattle.tables.specs.Columns.{Column, IndexColumn, layoutAt}
 use Rattle.gathers.specs.Ready.{Ready}
-use Rattle.variable.specs.declared.row.Named.{Named}
-use Rattle.variable.specs.declared.row.Named.the-variants.{Row, Null}
+use Rattle.variable.specs.declared.row.Taken.{Taken}
 
--- the row of number n, for an output row that is valid
-abbrev pub named : Bool → ℕ → Named
-named true n = Row n
-named false n = Null
+-- the row of number n and 1, for an output row that is valid; for one that is null, 0 and 0
+abbrev pub takenRow : Bool → ℕ → Taken
+takenRow true n = record { row = n; valid = 1 }
+takenRow false n = record { row = 0; valid = 0 }
 
 -- a column of runs and an index column that pass refusals 1 to 5, whatever the bytes of an entry
 pub record RunsReady (c : Column) (x : IndexColumn) : Type 0 where

@@ -1,5 +1,5 @@
--- `fixed::dispatch::take_by_width` meets its contract: an index width is 1, 2, 4 or 8. Assumes nothing.
-use Rattle.blocks.proofs.Blocks.{width-left}
+-- `fixed::dispatch::take_by_width` meets its contract: a number has 1, 2, 4 or 8 bytes. Assumes nothing.
+use Rattle.bits.proofs.Numbers.{width-one}
 use borrow.Author.Needs.{needs}
 use Rattle.fixed.proofs.dispatch.take_by_width.Statement.{statement}
 use Rattle.fixed.proofs.dispatch.take_by_width.Tie as tie
@@ -15,9 +15,9 @@ take-by-u64-requires c κs = search needs
 
 take-by-u8-requires : tie.Need-take-by-u8-requires
 take-by-u8-requires c κs =
-    let p = c .before .before .before .before .before .before .pre in
+    let p = c .before .before .before .before .before .pre in
     let r = c .before .match .rest in
-    (p, width-left p (r .0 .0 .1) (r .0 .1) (r .1))
+    (p, width-one _ (p .width) (r .0 .1) (r .1) (r .0 .0 .1))
 
 same-length : tie.Need-same-length
 same-length c = search needs

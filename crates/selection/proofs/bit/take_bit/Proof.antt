@@ -1,54 +1,85 @@
--- `selection::bit::take_bit` meets its contract. Only a valid index is used to read, and the bit that it names is there. Assumes nothing.
-use borrow.Author.Tests.{eq-eqb, ne-eqb}
+-- `selection::bit::take_bit` meets its contract. Under a null index place 0 is read, which is there, and the bit is masked. Assumes nothing.
+use mathlib.Core.Path.{_∙_}
+use native.Mathlib.Omega.{arith}
+use lib.Bits.{and-mask}
+use borrow.Author.Needs.{needs}
 use Rattle.tables.proofs.Facts.{index-formed}
-use Rattle.tables.proofs.There.{index-read, index-valid-read, index-there-at, index-valid-there}
-use Rattle.selection.proofs.Reading.{row-there, bit-moved, bit-blank}
+use Rattle.tables.proofs.There.{index-read, index-there-at}
+use Rattle.selection.proofs.Reading.{mask-le, mask-times, place-there, bit-moved}
 use Rattle.selection.proofs.bit.take_bit.Statement.{statement}
 use Rattle.selection.proofs.bit.take_bit.Tie as tie
 
-is-valid-requires : tie.Need-is-valid-requires
-is-valid-requires c κs =
-    let f = c .before .before .before in
-    index-valid-there _ (index-formed _ (f .pre .0)) (f .args .j) (f .pre .1 .1 .1)
+cast-v : tie.Need-cast-v
+cast-v c = search needs
+
+shr-v : tie.Need-shr-v
+shr-v c = search needs
 
 number-at-requires : tie.Need-number-at-requires
 number-at-requires c κs =
-    let f = c .before .before .before .before .before in
-    index-there-at _ (index-formed _ (f .pre .0)) (f .args .j) (f .pre .1 .1 .1) (f .pre .1 .1 .0)
+    let f = c .before .before .before in
+    index-there-at _ (index-formed _ (f .pre .0)) (f .args .j) (f .pre .1 .1 .0 .1) (f .pre .1 .1 .0 .0)
 
-add-pack-bit : tie.Need-add-pack-bit
-add-pack-bit c =
-    let f = c .before .before .before .before .before .before in
-    let j = f .args .j in
-    let valid = index-valid-read _ j (c .before .before .is-valid .ensures) (eq-eqb _ 1 (c .before .if1 .taken)) in
-    record { fits = row-there _ _ _ j (f .pre .1 .0) (f .pre .1 .1 .1) valid (index-read _ j (f .pre .1 .1 .0) (c .number-at .ensures)) .1 }
+cast-r : tie.Need-cast-r
+cast-r c =
+    let a = c .before .before .before .before .args in
+    omega (arith, mask-le (a .valid) (a .t))
 
-pack-bit-requires : tie.Need-pack-bit-requires
-pack-bit-requires c κs =
-    let f = c .before .before .before .before .before .before in
-    let j = f .args .j in
-    let valid = index-valid-read _ j (c .before .before .is-valid .ensures) (eq-eqb _ 1 (c .before .if1 .taken)) in
-    (row-there _ _ _ j (f .pre .1 .0) (f .pre .1 .1 .1) valid (index-read _ j (f .pre .1 .1 .0) (c .number-at .ensures)) .0, f .pre .1 .1 .2)
+mul-r : tie.Need-mul-r
+mul-r c =
+    let a = c .before .before .before .before .args in
+    omega (arith, mask-times (a .valid) (a .t) (c .number-at .result))
+
+cast-masked-bit : tie.Need-cast-masked-bit
+cast-masked-bit c =
+    let a = c .before .before .before .before .args in
+    omega (arith, mask-le (a .valid) (a .t))
+
+mul-masked-bit : tie.Need-mul-masked-bit
+mul-masked-bit c =
+    let a = c .before .before .before .before .args in
+    omega (arith, mask-times (a .valid) (a .t) (a .offset))
+
+add-masked-bit : tie.Need-add-masked-bit
+add-masked-bit c =
+    let f = c .before .before .before .before in
+    let p = f .pre .1 .1 .0 in
+    let number = index-read _ (f .args .j) (p .0) (c .number-at .ensures) in
+    record { fits = place-there _ (f .args .offset) _ (f .args .j) (and-mask _ 1 ∙ f .pre .1 .1 .1) number (f .pre .1 .0) (p .1) (p .3) .1 }
+
+masked-bit-requires : tie.Need-masked-bit-requires
+masked-bit-requires c κs =
+    let f = c .before .before .before .before in
+    let p = f .pre .1 .1 .0 in
+    let number = index-read _ (f .args .j) (p .0) (c .number-at .ensures) in
+    (place-there _ (f .args .offset) _ (f .args .j) (and-mask _ 1 ∙ f .pre .1 .1 .1) number (f .pre .1 .0) (p .1) (p .3) .0, mask-le (f .args .valid) (f .args .t))
+
+cast-result : tie.Need-cast-result
+cast-result c = search needs
+
+shl-result : tie.Need-shl-result
+shl-result c = search needs
 
 returns : tie.Need-returns
 returns c =
-    let f = c .before .before .before .before .before .before .before in
-    let j = f .args .j in
-    let valid = index-valid-read _ j (c .before .before .before .is-valid .ensures) (eq-eqb _ 1 (c .before .before .if1 .taken)) in
-    bit-moved _ _ _ j _ valid (index-read _ j (f .pre .1 .1 .0) (c .before .number-at .ensures)) (c .pack-bit .ensures)
-
-returns-2 : tie.Need-returns-2
-returns-2 c =
-    let j = c .before .before .before .before .before .args .j in
-    bit-blank _ _ _ j _ (index-valid-read _ j (c .before .is-valid .ensures) (ne-eqb _ 1 (c .if1 .left)))
+    let f = c .before .before .before .before .before in
+    let p = f .pre .1 .1 .0 in
+    let number = index-read _ (f .args .j) (p .0) (c .before .number-at .ensures) in
+    bit-moved _ (f .args .offset) _ (f .args .j) (and-mask _ 1 ∙ f .pre .1 .1 .1) number (f .args .t) (p .2) (c .masked-bit .ensures)
 
 pub take-bit-spec : {M : Type 1} → statement M
 take-bit-spec =
     tie.close
     (tie.spec
-    is-valid-requires
+    cast-v
+    shr-v
     number-at-requires
-    add-pack-bit
-    pack-bit-requires
-    returns
-    returns-2)
+    cast-r
+    mul-r
+    cast-masked-bit
+    mul-masked-bit
+    add-masked-bit
+    masked-bit-requires
+    cast-result
+    shl-result
+    returns)

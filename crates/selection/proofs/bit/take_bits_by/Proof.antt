@@ -15,13 +15,13 @@ use Rattle.selection.proofs.bit.take_bits_by.Statement.{statement}
 use Rattle.selection.proofs.bit.take_bits_by.Tie as tie
 
 abbrev Inv-loop : tie.InvT-loop
-Inv-loop src offset w indices index-data index-validity out₀ count whole k₀ out k =
+Inv-loop src offset w all indices index-data index-validity out₀ count whole k₀ out k =
     (k ≤ whole)
     × (out ≡ overwrite (packBytes k (λ p. ltb p count && takenBit src offset (record { indices = indices; values = index-data; validity = index-validity }) p)) out₀)
     × (length out ≡ length out₀)
 
 abbrev μ-loop : tie.MeasureT-loop
-μ-loop src offset w indices index-data index-validity out₀ count whole k₀ out k = whole - k
+μ-loop src offset w all indices index-data index-validity out₀ count whole k₀ out k = whole - k
 
 loop-holds : tie.Need-loop-holds Inv-loop μ-loop
 loop-holds c = (omega arith, bytes-none _ _, refl)
@@ -29,7 +29,8 @@ loop-holds c = (omega arith, bytes-none _ _, refl)
 take-byte-requires : tie.Need-take-byte-requires Inv-loop μ-loop
 take-byte-requires c κs =
     let f = c .before .before .before .before .before .before in
-    (f .pre .0, (f .pre .1 .0, (f .pre .1 .1 .0, omega arith, omega arith)))
+    let p = f .pre .1 .1 in
+    (f .pre .0, (f .pre .1 .0, ((p .0 .0, p .0 .1, p .1 .0 (omega arith)), (omega arith, omega arith, omega arith))))
 
 slice-write-out : tie.Need-slice-write-out Inv-loop μ-loop
 slice-write-out c = search needs
@@ -65,7 +66,8 @@ returns c =
 take-byte-requires-2 : tie.Need-take-byte-requires-2 Inv-loop μ-loop
 take-byte-requires-2 c κs =
     let f = c .before .before .before .before .before .before .before in
-    (f .pre .0, (f .pre .1 .0, (f .pre .1 .1 .0, omega arith, omega arith)))
+    let p = f .pre .1 .1 in
+    (f .pre .0, (f .pre .1 .0, ((p .0 .0, p .0 .1, p .1 .0 (omega arith)), (omega arith, omega arith, omega arith))))
 
 slice-write-out-2 : tie.Need-slice-write-out-2 Inv-loop μ-loop
 slice-write-out-2 c = search needs

@@ -12,11 +12,16 @@ use Rattle.selection.proofs.bit.take_byte.Statement.{statement}
 use Rattle.selection.proofs.bit.take_byte.Tie as tie
 
 abbrev Inv-loop : tie.InvT-loop
-Inv-loop src offset w indices index-data index-validity k n p byte₀ t₀ byte t =
+Inv-loop src offset w all indices index-data index-validity k n valid p byte₀ t₀ byte t =
     (t ≤ n) × (byte ≡ bitsTo t (λ i. takenBit src offset (record { indices = indices; values = index-data; validity = index-validity }) (p + i)))
 
 abbrev μ-loop : tie.MeasureT-loop
-μ-loop src offset w indices index-data index-validity k n p byte₀ t₀ byte t = n - t
+μ-loop src offset w all indices index-data index-validity k n valid p byte₀ t₀ byte t = n - t
+
+valid-byte-requires : tie.Need-valid-byte-requires Inv-loop μ-loop
+valid-byte-requires c κs =
+    let f = c .before .before .before in
+    (f .pre .0, (f .pre .1 .1 .0 .1, f .pre .1 .1 .1))
 
 mul-p : tie.Need-mul-p Inv-loop μ-loop
 mul-p c = search needs
@@ -29,13 +34,15 @@ add-take-bit c = search needs
 
 take-bit-requires : tie.Need-take-bit-requires Inv-loop μ-loop
 take-bit-requires c κs =
-    let f = c .before .before .before .before .before in
-    (f .pre .0, (f .pre .1 .0, (f .pre .1 .1 .0, omega (arith, f .pre .1 .1), omega (arith, f .pre .1 .1))))
+    let v = c .before .before in
+    let f = v .before .before .before .before in
+    let p = f .pre .1 .1 in
+    (f .pre .0, (f .pre .1 .0, ((p .0 .0, omega (arith, p .1), omega (arith, p .1), p .0 .2), v .valid-byte .ensures (c .before .loop .t) (c .loop-test .taken))))
 
 add-byte : tie.Need-add-byte Inv-loop μ-loop
 add-byte c =
     let at = c .before .before .loop in
-    let a = c .before .before .before .before .before .before .args in
+    let a = c .before .before .before .before .before .before .before .args in
     let g : ℕ → Bool = λ i. takenBit (a .src .now) (a .offset) (indexColumnAt (a .indices) (a .index-data) (a .index-validity)) (8 * a .k + i) in
     let few : 2 ^ (at .t + 1) ≤ 2 ^ 8 = pow-mono {j = 8} (omega arith) in
     omega (arith, c .take-bit .ensures, bitsTo-step (at .t) g, bitsTo-lt (at .t + 1) g)
@@ -49,14 +56,14 @@ loop-less c = search needs
 loop-again : tie.Need-loop-again Inv-loop μ-loop
 loop-again c =
     let at = c .before .before .loop in
-    let a = c .before .before .before .before .before .before .args in
+    let a = c .before .before .before .before .before .before .before .args in
     let g : ℕ → Bool = λ i. takenBit (a .src .now) (a .offset) (indexColumnAt (a .indices) (a .index-data) (a .index-validity)) (8 * a .k + i) in
     (omega arith, ap₂ _+_ (at .inv .1) (c .take-bit .ensures) ∙ sym (bitsTo-step (at .t) g))
 
 returns : tie.Need-returns Inv-loop μ-loop
 returns c =
     let at = c .before .loop in
-    let a = c .before .before .before .before .before .args in
+    let a = c .before .before .before .before .before .before .args in
     let g : ℕ → Bool = λ i. takenBit (a .src .now) (a .offset) (indexColumnAt (a .indices) (a .index-data) (a .index-validity)) (8 * a .k + i) in
     let e : at .t ≡ a .n = omega arith in
     at .inv .1 ∙ ap (λ (m : ℕ). bitsTo m g) e ∙ bitsTo-byteOf (a .n) g (omega arith)
@@ -67,6 +74,7 @@ take-byte-spec =
     (tie.spec
     Inv-loop
     μ-loop
+    valid-byte-requires
     mul-p
     loop-holds
     add-take-bit

@@ -14,9 +14,9 @@ enum-told c = search needs
 take-native-requires : tie.Need-take-native-requires
 take-native-requires c κs =
     let k = c .before .before .before in
-    let p = k .before .before .before .before .before .before .before .before .pre in
+    let p = k .before .before .before .before .before .before .before .before .before .pre in
     let e = layout-by _ (kind-told _ (k .kind-of .ensures) (c .before .enum-told .given .1)) in
-    blocked _ _ (p .0) _ e (p .1 .1)
+    (blocked _ _ (p .0) _ e (p .1 .0 .1), p .1 .1 .0)
 
 enum-told-2 : tie.Need-enum-told-2
 enum-told-2 c = search needs
@@ -24,9 +24,9 @@ enum-told-2 c = search needs
 take-boolean-requires : tie.Need-take-boolean-requires
 take-boolean-requires c κs =
     let k = c .before .before .before in
-    let p = k .before .before .before .before .before .before .before .before .pre in
+    let p = k .before .before .before .before .before .before .before .before .before .pre in
     let e = layout-by _ (kind-told _ (k .kind-of .ensures) (c .before .enum-told2 .given .1)) in
-    (p .0 .indices .passed, (data-reached _ _ (p .0) e, bits-room _ _ (p .0) e (p .1 .1)))
+    (p .0 .indices .passed, (data-reached _ _ (p .0) e, bits-room _ _ (p .0) e (p .1 .0 .1)))
 
 enum-told-3 : tie.Need-enum-told-3
 enum-told-3 c = search needs
@@ -34,8 +34,8 @@ enum-told-3 c = search needs
 take-bytes-requires : tie.Need-take-bytes-requires
 take-bytes-requires c κs =
     let k = c .before .before .before .before in
-    let p = k .before .before .before .before .before .before .before .before .pre in
-    (p .0, (kind-told _ (k .kind-of .ensures) (c .before .before .enum-told3 .given .1), p .1))
+    let p = k .before .before .before .before .before .before .before .before .before .pre in
+    (p .0, (kind-told _ (k .kind-of .ensures) (c .before .before .enum-told3 .given .1), (p .1 .1 .1 .1, (p .1 .1 .1 .0, p .1 .0))))
 
 enum-told-4 : tie.Need-enum-told-4
 enum-told-4 c = search needs
@@ -43,8 +43,8 @@ enum-told-4 c = search needs
 take-list-requires : tie.Need-take-list-requires
 take-list-requires c κs =
     let k = c .before .before .before .before in
-    let p = k .before .before .before .before .before .before .before .before .pre in
-    (p .0, (kind-told _ (k .kind-of .ensures) (c .before .before .enum-told4 .given .1), p .1))
+    let p = k .before .before .before .before .before .before .before .before .before .pre in
+    (p .0, (kind-told _ (k .kind-of .ensures) (c .before .before .enum-told4 .given .1), (p .1 .1 .1 .1, (p .1 .1 .1 .0, p .1 .0))))
 
 enum-told-5 : tie.Need-enum-told-5
 enum-told-5 c = search needs
@@ -52,9 +52,9 @@ enum-told-5 c = search needs
 take-fixed-size-list-primitive-requires : tie.Need-take-fixed-size-list-primitive-requires
 take-fixed-size-list-primitive-requires c κs =
     let k = c .before .before .before in
-    let p = k .before .before .before .before .before .before .before .before .pre in
+    let p = k .before .before .before .before .before .before .before .before .before .pre in
     let e = layout-by _ (kind-told _ (k .kind-of .ensures) (c .before .enum-told5 .given .1)) in
-    blocked _ _ (p .0) _ e (p .1 .1)
+    blocked _ _ (p .0) _ e (p .1 .0 .1)
 
 enum-told-6 : tie.Need-enum-told-6
 enum-told-6 c = search needs
@@ -62,9 +62,9 @@ enum-told-6 c = search needs
 take-fixed-size-binary-requires : tie.Need-take-fixed-size-binary-requires
 take-fixed-size-binary-requires c κs =
     let k = c .before .before .before in
-    let p = k .before .before .before .before .before .before .before .before .pre in
+    let p = k .before .before .before .before .before .before .before .before .before .pre in
     let e = layout-by _ (kind-told _ (k .kind-of .ensures) (c .before .enum-told6 .given .1)) in
-    blocked _ _ (p .0) _ e (p .1 .1)
+    (blocked _ _ (p .0) _ e (p .1 .0 .1), p .1 .1 .0)
 
 enum-told-7 : tie.Need-enum-told-7
 enum-told-7 c = search needs
@@ -75,7 +75,7 @@ same-length c = search needs
 returns : tie.Need-returns
 returns c =
     let k = c .before .before .before .before .before .before in
-    let p = k .before .before .before .before .before .before .before .before .pre in
+    let p = k .before .before .before .before .before .before .before .before .before .pre in
     let e = kind-told _ (k .kind-of .ensures) (c .before .before .before .before .enum-told .given .1) in
     (blocks-keep _ _ (p .0) _ (layout-by _ e) _, blocks-stored _ _ (p .0) _ (layout-by _ e) true _ (under-null-by _ e) (c .before .before .take-native .ensures))
 
@@ -85,7 +85,7 @@ same-length-2 c = search needs
 returns-2 : tie.Need-returns-2
 returns-2 c =
     let k = c .before .before .before .before .before .before in
-    let p = k .before .before .before .before .before .before .before .before .pre in
+    let p = k .before .before .before .before .before .before .before .before .before .pre in
     let e = kind-told _ (k .kind-of .ensures) (c .before .before .before .before .enum-told2 .given .1) in
     (bits-keep _ _ (p .0) (layout-by _ e) _, bits-stored _ _ (p .0) (layout-by _ e) _ (under-null-by _ e) (c .before .before .take-boolean .ensures))
 
@@ -99,7 +99,7 @@ returns-3 : tie.Need-returns-3
 returns-3 c =
     let t = c .before .before .before .before .take-bytes .ensures in
     let k = c .before .before .before .before .before .before .before .before .before in
-    let p = k .before .before .before .before .before .before .before .before .pre in
+    let p = k .before .before .before .before .before .before .before .before .before .pre in
     let e = layout-by _ (kind-told _ (k .kind-of .ensures) (c .before .before .before .before .before .before .before .enum-told3 .given .1)) in
     (runs-stored _ _ (p .0) _ _ e (t .0), t .1)
 
@@ -113,7 +113,7 @@ returns-4 : tie.Need-returns-4
 returns-4 c =
     let t = c .before .before .before .before .take-list .ensures in
     let k = c .before .before .before .before .before .before .before .before .before in
-    let p = k .before .before .before .before .before .before .before .before .pre in
+    let p = k .before .before .before .before .before .before .before .before .before .pre in
     let e = layout-by _ (kind-told _ (k .kind-of .ensures) (c .before .before .before .before .before .before .before .enum-told4 .given .1)) in
     (runs-stored _ _ (p .0) _ _ e (t .0), t .1)
 
@@ -123,7 +123,7 @@ same-length-7 c = search needs
 returns-5 : tie.Need-returns-5
 returns-5 c =
     let k = c .before .before .before .before .before .before in
-    let p = k .before .before .before .before .before .before .before .before .pre in
+    let p = k .before .before .before .before .before .before .before .before .before .pre in
     let e = kind-told _ (k .kind-of .ensures) (c .before .before .before .before .enum-told5 .given .1) in
     (blocks-keep _ _ (p .0) _ (layout-by _ e) _, blocks-stored _ _ (p .0) _ (layout-by _ e) false _ (under-null-by _ e) (c .before .before .take-fixed-size-list-primitive .ensures))
 
@@ -133,14 +133,14 @@ same-length-8 c = search needs
 returns-6 : tie.Need-returns-6
 returns-6 c =
     let k = c .before .before .before .before .before .before in
-    let p = k .before .before .before .before .before .before .before .before .pre in
+    let p = k .before .before .before .before .before .before .before .before .before .pre in
     let e = kind-told _ (k .kind-of .ensures) (c .before .before .before .before .enum-told6 .given .1) in
     (blocks-keep _ _ (p .0) _ (layout-by _ e) _, blocks-stored _ _ (p .0) _ (layout-by _ e) _ _ (under-null-by _ e) (c .before .before .take-fixed-size-binary .ensures))
 
 returns-7 : tie.Need-returns-7
 returns-7 c =
     let k = c .before .before in
-    absurd (known _ (k .before .before .before .before .before .before .before .before .pre .0 .column) (kind-told _ (k .kind-of .ensures) (c .enum-told7 .given .1)))
+    absurd (known _ (k .before .before .before .before .before .before .before .before .before .pre .0 .column) (kind-told _ (k .kind-of .ensures) (c .enum-told7 .given .1)))
 
 pub take-values-spec : {M : Type 1} → statement M
 take-values-spec =

@@ -1,12 +1,12 @@
 -- `variable::run::take_bytes` meets its contract: an entry of variable bytes is a byte. Assumes nothing.
-use borrow.Author.Needs.{needs}
 use Rattle.tables.proofs.Views.{layoutAt-known}
+use borrow.Author.Needs.{needs}
 use Rattle.variable.proofs.run.take_bytes.Statement.{statement}
 use Rattle.variable.proofs.run.take_bytes.Tie as tie
 
 take-runs-requires : tie.Need-take-runs-requires
 take-runs-requires c κs =
-    let f = c .before .before .before .before .before .before .before .before .before in
+    let f = c .before .before .before .before .before .before .before .before .before .before in
     (f .pre .0, (layoutAt-known _ (f .pre .1 .0), f .pre .1 .1))
 
 same-length : tie.Need-same-length
@@ -16,7 +16,7 @@ same-length-2 : tie.Need-same-length-2
 same-length-2 c = search needs
 
 returns : tie.Need-returns
-returns c = c .before .before .before .before .take-runs .ensures
+returns c = search needs
 
 pub take-bytes-spec : {M : Type 1} → statement M
 take-bytes-spec = tie.close (tie.spec take-runs-requires same-length same-length-2 returns)

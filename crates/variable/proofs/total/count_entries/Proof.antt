@@ -1,9 +1,10 @@
 -- `variable::total::count_entries` meets its contract. The loop's invariant: `total` is the entries of the first j rows, and no total so far is above `most`.
 -- Assumes nothing.
+use mathlib.Core.Path.{refl}
 use Prim.Native.Nat.{_-_}
 use native.Mathlib.Omega.{arith}
 use borrow.Author.Needs.{needs}
-use Rattle.variable.proofs.Counting.{columnOf, indexColumnOf, Counting, counting-start, counting-next, counting-stop, counting-fits, counting-end}
+use Rattle.variable.proofs.Counting.{columnOf, indexColumnOf, sum-fits, Counting, counting-start, counting-next, counting-stop, counting-end}
 use Rattle.variable.proofs.total.count_entries.Statement.{statement}
 use Rattle.variable.proofs.total.count_entries.Tie as tie
 
@@ -20,20 +21,20 @@ largest-offset-requires c κs = search needs
 loop-holds : tie.Need-loop-holds Inv-loop μ-loop
 loop-holds c = counting-start _ _ _
 
-taken-entries-requires : tie.Need-taken-entries-requires Inv-loop μ-loop
-taken-entries-requires c κs = (c .before .before .before .before .before .before .before .before .pre, c .loop-test .taken)
+masked-entries-requires : tie.Need-masked-entries-requires Inv-loop μ-loop
+masked-entries-requires c κs = (c .before .before .before .before .before .before .before .before .pre, (refl, refl, c .loop-test .taken))
 
 add-after : tie.Need-add-after Inv-loop μ-loop
 add-after c =
     let l = c .before .before in
     let f = l .before .before .before .before .before .before .before in
-    record { fits = counting-fits (f .pre) (l .before .largest-offset .ensures) (l .loop .inv) (c .before .loop-test .taken) (c .taken-entries .ensures) }
+    record { fits = sum-fits (f .pre) (c .before .loop-test .taken) (l .loop .inv .counted) (c .masked-entries .ensures) }
 
 returns : tie.Need-returns Inv-loop μ-loop
 returns c =
     let l = c .before .before .before in
     let f = l .before .before .before .before .before .before .before in
-    counting-stop (f .pre) (l .before .largest-offset .ensures) (l .loop .inv) (c .before .before .loop-test .taken) (c .before .taken-entries .ensures) (c .if1 .taken)
+    counting-stop (f .pre) (l .before .largest-offset .ensures) (l .loop .inv) (c .before .before .loop-test .taken) (c .before .masked-entries .ensures) (c .if1 .taken)
 
 add-j : tie.Need-add-j Inv-loop μ-loop
 add-j c = omega (arith, c .before .before .loop-test .taken)
@@ -45,7 +46,7 @@ loop-again : tie.Need-loop-again Inv-loop μ-loop
 loop-again c =
     let l = c .before .before .before in
     let f = l .before .before .before .before .before .before .before in
-    counting-next (f .pre) (l .before .largest-offset .ensures) (l .loop .inv) (c .before .before .loop-test .taken) (c .before .taken-entries .ensures) (c .if1 .left)
+    counting-next (f .pre) (l .before .largest-offset .ensures) (l .loop .inv) (c .before .before .loop-test .taken) (c .before .masked-entries .ensures) (c .if1 .left)
 
 returns-2 : tie.Need-returns-2 Inv-loop μ-loop
 returns-2 c =
@@ -61,7 +62,7 @@ count-entries-spec =
     μ-loop
     largest-offset-requires
     loop-holds
-    taken-entries-requires
+    masked-entries-requires
     add-after
     returns
     add-j
