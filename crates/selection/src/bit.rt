@@ -27,7 +27,7 @@ fn masked_bit(src: &[u8], p: usize, v: u8) -> u8
     (b >> (p % 8)) & v
 }
 
-// Output bit j, at place t of its byte. Bit t of valid says whether index j is valid.
+// Output bit j, at place t of its byte: Rust's `pack_bit`. Bit t of valid says whether index j is valid.
 fn take_bit(
     src: &[u8],
     offset: usize,

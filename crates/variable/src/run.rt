@@ -259,7 +259,7 @@ fn copy_rows(
     }
 }
 
-// The same, at a literal offset width: each has loops of its own. The data is needed up to the last offset.
+// The same, of a column: its data is needed up to the last offset. A call for each offset width keeps the loop a function with registers of its own.
 fn copy_runs(
     table: Table,
     data: &[u8],
