@@ -1,6 +1,6 @@
 // Refusals 1 to 4, in their order: of a column with an index column, and of a column by itself. Any numbers and any buffers may be handed in.
 use crate::sizes::check_sizes;
-use offsets::runs::check_offsets;
+use offsets::check::check_offsets;
 use tables::refusal::Checked;
 use tables::table::Indices;
 use tables::table::Table;

@@ -17,7 +17,7 @@ ghost use Prim.Native.Nat.{_+_, _≤_};
 ghost use Rattle.bits.specs.Bits.{bytesFor};
 ghost use Rattle.tables.specs.Columns.{columnAt, indexColumnAt};
 ghost use Rattle.tables.specs.Answers.{checkedNumbers};
-ghost use Rattle.tables.specs.Refusals.{maxRows, maxBit, badKind, usedOverLimit, validityOverLimit, overLimit, valuesShort, validityShort, tooShort, indexOverLimit, indexTooShort, sizesRefusal};
+ghost use Rattle.tables.specs.Refusals.{maxRows, maxBit, badKind, usedOverLimit, validityOverLimit, overLimit, dataShort, validityShort, tooShort, indexOverLimit, indexTooShort, sizesRefusal};
 ghost use Rattle.tables.specs.Bounds.{Bounds, IndexBounds};
 
 const MAX_ROWS: u64 = 1_048_576;
@@ -62,19 +62,19 @@ fn validity_over_limit(bytes: u64, bit: u64) -> bool
     (bytes > MAX_BYTES) | ((bytes != 0) & (bit > MAX_BIT))
 }
 
-fn over_limit(kind: Kind, t: Table, values: u64, offsets: u64, validity: u64) -> bool
-    ensures { λ r. ⌜ r ≡ overLimit kind t values offsets validity ⌝ }
+fn over_limit(kind: Kind, t: Table, data: u64, offsets: u64, validity: u64) -> bool
+    ensures { λ r. ⌜ r ≡ overLimit kind t «data» offsets validity ⌝ }
 {
     (t.rows > MAX_ROWS)
-        | (values > MAX_BYTES)
+        | (data > MAX_BYTES)
         | validity_over_limit(validity, t.validity_bit)
         | used_over_limit(kind, t, offsets)
 }
 
-fn index_over_limit(x: Indices, values: u64, validity: u64) -> bool
-    ensures { λ r. ⌜ r ≡ indexOverLimit x values validity ⌝ }
+fn index_over_limit(x: Indices, data: u64, validity: u64) -> bool
+    ensures { λ r. ⌜ r ≡ indexOverLimit x «data» validity ⌝ }
 {
-    (x.count > MAX_ROWS) | (values > MAX_BYTES) | validity_over_limit(validity, x.validity_bit)
+    (x.count > MAX_ROWS) | (data > MAX_BYTES) | validity_over_limit(validity, x.validity_bit)
 }
 
 // The bytes that hold so many bits.
@@ -85,14 +85,14 @@ fn bytes_for(bits: u64) -> u64
     (bits + 7) / 8
 }
 
-fn values_short(layout: Layout, t: Table, values: u64, offsets: u64) -> bool
+fn data_short(layout: Layout, t: Table, data: u64, offsets: u64) -> bool
     requires { ⌜ Bounds layout t ⌝ }
-    ensures { λ r. ⌜ r ≡ valuesShort layout t values offsets ⌝ }
+    ensures { λ r. ⌜ r ≡ dataShort layout t «data» offsets ⌝ }
 {
     match layout {
-        Layout::Blocks(n) => values < t.rows * n,
-        Layout::Bits => values < bytes_for(t.data_bit + t.rows),
-        Layout::Runs(_) => offsets < (t.rows + 1) * t.offset_width,
+        Layout::FixedWidth(n) => data < t.rows * n,
+        Layout::BitMap => data < bytes_for(t.data_bit + t.rows),
+        Layout::VariableWidth(_) => offsets < (t.rows + 1) * t.offset_width,
     }
 }
 
@@ -108,20 +108,20 @@ fn validity_short(bytes: u64, bit: u64, rows: u64) -> bool
     bytes < bytes_for(bit + rows)
 }
 
-fn too_short(layout: Layout, t: Table, values: u64, offsets: u64, validity: u64) -> bool
+fn too_short(layout: Layout, t: Table, data: u64, offsets: u64, validity: u64) -> bool
     requires { ⌜ Bounds layout t ⌝ }
     requires { ⌜ validityOverLimit validity (t .«validity_bit») ≡ false ⌝ }
-    ensures { λ r. ⌜ r ≡ tooShort layout t values offsets validity ⌝ }
+    ensures { λ r. ⌜ r ≡ tooShort layout t «data» offsets validity ⌝ }
 {
-    values_short(layout, t, values, offsets) | validity_short(validity, t.validity_bit, t.rows)
+    data_short(layout, t, data, offsets) | validity_short(validity, t.validity_bit, t.rows)
 }
 
-fn index_too_short(x: Indices, values: u64, validity: u64) -> bool
+fn index_too_short(x: Indices, data: u64, validity: u64) -> bool
     requires { ⌜ IndexBounds x ⌝ }
     requires { ⌜ validityOverLimit validity (x .«validity_bit») ≡ false ⌝ }
-    ensures { λ r. ⌜ r ≡ indexTooShort x values validity ⌝ }
+    ensures { λ r. ⌜ r ≡ indexTooShort x «data» validity ⌝ }
 {
-    (values < x.count * x.width) | validity_short(validity, x.validity_bit, x.count)
+    (data < x.count * x.width) | validity_short(validity, x.validity_bit, x.count)
 }
 
 // Refusals 1, 2 and 3 of a column with an index column. Each test is put to both before the next.
@@ -140,19 +140,19 @@ pub fn check_sizes(
     if bad_kind(kind, table) | !is_index_width(indices.width) {
         return Checked::Unfit(Refusal::Kind);
     }
-    let values = data.len() as u64;
-    let runs = offsets.len() as u64;
-    let bits = validity.len() as u64;
-    let index_values = index_data.len() as u64;
-    let index_bits = index_validity.len() as u64;
-    if over_limit(kind, table, values, runs, bits)
-        | index_over_limit(indices, index_values, index_bits)
+    let data_len = data.len() as u64;
+    let offsets_len = offsets.len() as u64;
+    let validity_len = validity.len() as u64;
+    let index_data_len = index_data.len() as u64;
+    let index_validity_len = index_validity.len() as u64;
+    if over_limit(kind, table, data_len, offsets_len, validity_len)
+        | index_over_limit(indices, index_data_len, index_validity_len)
     {
         return Checked::Unfit(Refusal::Limit);
     }
     let layout = layout_of(kind, table);
-    if too_short(layout, table, values, runs, bits)
-        | index_too_short(indices, index_values, index_bits)
+    if too_short(layout, table, data_len, offsets_len, validity_len)
+        | index_too_short(indices, index_data_len, index_validity_len)
     {
         return Checked::Unfit(Refusal::Short);
     }

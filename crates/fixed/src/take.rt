@@ -21,7 +21,7 @@ ghost use Rattle.blocks.specs.Blocked.{Blocked};
 
 // Rust's `take_native`: rows of `width` bytes; the number under a null index is read too.
 pub fn take_native(
-    values: &[u8],
+    data: &[u8],
     width: usize,
     rows: usize,
     indices: Indices,
@@ -30,13 +30,13 @@ pub fn take_native(
     outside: bool,
     out: &mut [u8],
 )
-    requires { ⌜ Blocked width rows (indexColumnAt indices «index_data» «index_validity») (now values) (now out) ⌝ }
+    requires { ⌜ Blocked width rows (indexColumnAt indices «index_data» «index_validity») (now «data») (now out) ⌝ }
     requires { ⌜ outside ≡ someOutside rows (indexColumnAt indices «index_data» «index_validity») ⌝ }
-    ensures { λ _. ⌜ now (out .exit) ≡ overwrite (concat (indices .count) (takenBlock true rows width (now (values .entry)) (indexColumnAt indices («index_data» .entry) («index_validity» .entry)))) (now (out .entry)) ⌝ }
+    ensures { λ _. ⌜ now (out .exit) ≡ overwrite (concat (indices .count) (takenBlock true rows width (now («data» .entry)) (indexColumnAt indices («index_data» .entry) («index_validity» .entry)))) (now (out .entry)) ⌝ }
 {
     let under_null = true;
     take_blocks(
-        values,
+        data,
         width,
         rows,
         under_null,
@@ -52,7 +52,7 @@ pub fn take_native(
 
 // Rust's `take_fixed_size_binary`: rows of `size` bytes; the number under a null index is read at sizes 1, 2, 4, 8 and 16 alone.
 pub fn take_fixed_size_binary(
-    values: &[u8],
+    data: &[u8],
     size: usize,
     rows: usize,
     indices: Indices,
@@ -61,13 +61,13 @@ pub fn take_fixed_size_binary(
     outside: bool,
     out: &mut [u8],
 )
-    requires { ⌜ Blocked size rows (indexColumnAt indices «index_data» «index_validity») (now values) (now out) ⌝ }
+    requires { ⌜ Blocked size rows (indexColumnAt indices «index_data» «index_validity») (now «data») (now out) ⌝ }
     requires { ⌜ outside ≡ someOutside rows (indexColumnAt indices «index_data» «index_validity») ⌝ }
-    ensures { λ _. ⌜ now (out .exit) ≡ overwrite (concat (indices .count) (takenBlock (copiesUnderNull FixedSizeBinary size) rows size (now (values .entry)) (indexColumnAt indices («index_data» .entry) («index_validity» .entry)))) (now (out .entry)) ⌝ }
+    ensures { λ _. ⌜ now (out .exit) ≡ overwrite (concat (indices .count) (takenBlock (copiesUnderNull FixedSizeBinary size) rows size (now («data» .entry)) (indexColumnAt indices («index_data» .entry) («index_validity» .entry)))) (now (out .entry)) ⌝ }
 {
     let under_null = (size == 1) | (size == 2) | (size == 4) | (size == 8) | (size == 16);
     take_blocks(
-        values,
+        data,
         size,
         rows,
         under_null,
@@ -83,7 +83,7 @@ pub fn take_fixed_size_binary(
 
 // Rust's `take_fixed_size_list_primitive`: rows of `size` child elements of `width` bytes; under a null index zeros.
 pub fn take_fixed_size_list_primitive(
-    values: &[u8],
+    data: &[u8],
     size: usize,
     width: usize,
     rows: usize,
@@ -92,12 +92,12 @@ pub fn take_fixed_size_list_primitive(
     index_validity: &[u8],
     out: &mut [u8],
 )
-    requires { ⌜ Blocked (size * width) rows (indexColumnAt indices «index_data» «index_validity») (now values) (now out) ⌝ }
-    ensures { λ _. ⌜ now (out .exit) ≡ overwrite (concat (indices .count) (takenBlock false rows (size * width) (now (values .entry)) (indexColumnAt indices («index_data» .entry) («index_validity» .entry)))) (now (out .entry)) ⌝ }
+    requires { ⌜ Blocked (size * width) rows (indexColumnAt indices «index_data» «index_validity») (now «data») (now out) ⌝ }
+    ensures { λ _. ⌜ now (out .exit) ≡ overwrite (concat (indices .count) (takenBlock false rows (size * width) (now («data» .entry)) (indexColumnAt indices («index_data» .entry) («index_validity» .entry)))) (now (out .entry)) ⌝ }
 {
     let under_null = false;
     take_blocks(
-        values,
+        data,
         size * width,
         rows,
         under_null,
@@ -113,7 +113,7 @@ pub fn take_fixed_size_list_primitive(
 
 // Rust's `take_boolean`: rows of one bit, the first at bit_offset; under a null index 0.
 pub fn take_boolean(
-    values: &[u8],
+    data: &[u8],
     bit_offset: usize,
     indices: Indices,
     index_data: &[u8],
@@ -121,9 +121,9 @@ pub fn take_boolean(
     out: &mut [u8],
 )
     requires { ⌜ passes (indexRefusal (indexColumnAt indices «index_data» «index_validity»)) ≡ true ⌝ }
-    requires { ⌜ Reaches «bit_offset» (now values) (indexColumnAt indices «index_data» «index_validity») ⌝ }
+    requires { ⌜ Reaches «bit_offset» (now «data») (indexColumnAt indices «index_data» «index_validity») ⌝ }
     requires { ⌜ bytesFor (indices .count) ≤ length (now out) ⌝ }
-    ensures { λ _. ⌜ now (out .exit) ≡ overwrite (pack (indices .count) (takenBit (now (values .entry)) «bit_offset» (indexColumnAt indices («index_data» .entry) («index_validity» .entry)))) (now (out .entry)) ⌝ }
+    ensures { λ _. ⌜ now (out .exit) ≡ overwrite (pack (indices .count) (takenBit (now («data» .entry)) «bit_offset» (indexColumnAt indices («index_data» .entry) («index_validity» .entry)))) (now (out .entry)) ⌝ }
 {
-    take_bits(values, bit_offset, indices, index_data, index_validity, out);
+    take_bits(data, bit_offset, indices, index_data, index_validity, out);
 }

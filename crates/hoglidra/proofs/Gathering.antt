@@ -15,13 +15,13 @@ use Rattle.tables.specs.Answers.{passes, checkedNumbers, firstOf}
 use Rattle.tables.specs.Refusals.{indexRefusal, formRefusal, WellFormed}
 use Rattle.tables.specs.Rows.{Rows, rowsOf}
 use Rattle.gathers.specs.Taken.{takeRows}
-use Rattle.gathers.specs.Stored.{Output, validityBytes, valueBytes, validityLength, offsetLength, valueLength, nullCount, storeOffsets}
+use Rattle.gathers.specs.Stored.{Output, validityBytes, dataBytes, validityLength, offsetLength, dataLength, nullCount, storeOffsets}
 use Rattle.gathers.specs.Gather.{rangeRefusal, overflowRefusal, measured, spaceRefusal, refusals, Outcome, gather}
 use Rattle.gathers.specs.Ready.{Ready}
 use Rattle.gathers.specs.Buffers.{someOutside}
 use Rattle.gathers.specs.Blank.{blank}
 use Rattle.variable.specs.declared.total.Measured.{Measured}
-use Rattle.variable.specs.declared.total.Measured.the-variants.{Bytes, Unfit as UnfitRuns}
+use Rattle.variable.specs.declared.total.Measured.the-variants.{Bytes, Unfit as UnfitVariable}
 use Rattle.variable.specs.Measured.{measuredNumbers}
 use Rattle.hoglidra.specs.declared.check.Passed.{Passed}
 use Rattle.hoglidra.specs.declared.check.Passed.the-variants.{Fit, Unfit}
@@ -76,16 +76,16 @@ module _ (c : Column) (x : IndexColumn) where
       pub tested : Ready c x
       tested = record { column = form-passed c x form .0; indices = record { passed = indices-passed; range = range } }
 
-      pub overflow-refused : (o : Output) {m : Measured} {r : Refusal} {p : Passed} → measuredNumbers m ≡ measured v → m ≡ UnfitRuns r → p ≡ overflowedOf m → Answers o p
+      pub overflow-refused : (o : Output) {m : Measured} {r : Refusal} {p : Passed} → measuredNumbers m ≡ measured v → m ≡ UnfitVariable r → p ≡ overflowedOf m → Answers o p
       overflow-refused o {r = r} e f d =
           let m = measured-refused v (rw (sym e, f) (refusing r)) in
           answers o (d ∙ ap overflowedOf f) (sym (ap measuredNumbers f) ∙ e ∙ m .1 ∙ stops-overflow c x o form range (m .0), tt)
 
       module _ {m : Measured} {total : ℕ} (me : measuredNumbers m ≡ measured v) (mf : m ≡ Bytes total) where
-        counted : (passes (overflowRefusal v) ≡ true) × (total ≡ valueLength (v .layout) v)
+        counted : (passes (overflowRefusal v) ≡ true) × (total ≡ dataLength (v .layout) v)
         counted = measured-total v (sym (ap measuredNumbers mf) ∙ me)
 
-        pub needs-total : total ≡ valueLength (v .layout) v
+        pub needs-total : total ≡ dataLength (v .layout) v
         needs-total = counted .1
 
         module _ (o : Output) {w : Checked} (we : checkedNumbers w ≡ spaceRefusal v o) where
@@ -112,7 +112,7 @@ module _ (c : Column) (x : IndexColumn) where
       stages : AllPassed c x o
       stages = all-passed c x o passed
 
-      told : (total ≡ valueLength (rowsOf c .layout) v) × (outside ≡ someOutside (c .table .rows) x)
+      told : (total ≡ dataLength (rowsOf c .layout) v) × (outside ≡ someOutside (c .table .rows) x)
       told = subst (Told c x) f (e .1)
 
       pub ready : Ready c x
@@ -126,26 +126,26 @@ module _ (c : Column) (x : IndexColumn) where
       pub overflow-passed : passes (overflowRefusal v) ≡ true
       overflow-passed = stages .overflow
 
-      room : (validityLength v ≤ length (o .validity)) × (offsetLength (v .layout) v ≤ length (o .offsets)) × (valueLength (v .layout) v ≤ length (o .values))
+      room : (validityLength v ≤ length (o .validity)) × (offsetLength (v .layout) v ≤ length (o .offsets)) × (dataLength (v .layout) v ≤ length (o .«data»))
       room = enough v o (stages .space)
 
       pub validity-room : validityLength v ≤ length (o .validity)
       validity-room = room .0
 
-      pub data-room : (offsetLength (layoutAt c) v ≤ length (o .offsets)) × (valueLength (layoutAt c) v ≤ length (o .values))
+      pub data-room : (offsetLength (layoutAt c) v ≤ length (o .offsets)) × (dataLength (layoutAt c) v ≤ length (o .«data»))
       data-room =
           let l : rowsOf c .layout ≡ layoutAt c = rows-layout c in
-          (subst (λ (k : Layout). offsetLength k v ≤ length (o .offsets)) l (room .1), subst (λ (k : Layout). valueLength k v ≤ length (o .values)) l (room .2))
+          (subst (λ (k : Layout). offsetLength k v ≤ length (o .offsets)) l (room .1), subst (λ (k : Layout). dataLength k v ≤ length (o .«data»)) l (room .2))
 
       pub all-stored : {nulls : ℕ} {a b d : List ℕ} → nulls ≡ nullCount v → a ≡ overwrite (validityBytes v) (o .validity)
-          → b ≡ storeOffsets (layoutAt c) v (o .offsets) → d ≡ overwrite (valueBytes (layoutAt c) v) (o .values)
+          → b ≡ storeOffsets (layoutAt c) v (o .offsets) → d ≡ overwrite (dataBytes (layoutAt c) v) (o .«data»)
           → record {
             answer = record { number = 0; place = 0; total = total; nulls = nulls };
-            output = record { validity = a; offsets = b; values = d };
+            output = record { validity = a; offsets = b; «data» = d };
           }
           ≡ gather c x o
       all-stored n ha hb hd =
           let l : layoutAt c ≡ rowsOf c .layout = sym (rows-layout c) in
           let kb = hb ∙ ap (λ (k : Layout). storeOffsets k v (o .offsets)) l in
-          let kd = hd ∙ ap (λ (k : Layout). overwrite (valueBytes k v) (o .values)) l in
+          let kd = hd ∙ ap (λ (k : Layout). overwrite (dataBytes k v) (o .«data»)) l in
           rw (gathered-by v (told .0) n, stored-by v o ha kb kd) (gather-stored c x o passed)

@@ -12,7 +12,7 @@ use borrow.Author.Tests.{lt-ltb, le-ltb, eqb-true, ne-eqb, eq-eqb}
 use Rattle.bits.specs.Numbers.{numberAt, isNumberWidth}
 use Rattle.bits.specs.Bits.{bitValue, isAbsent, validAt}
 use Rattle.bits.specs.Bytes.{part}
-use Rattle.tables.specs.declared.table.Layout.the-variants.{Runs}
+use Rattle.tables.specs.declared.table.Layout.the-variants.{VariableWidth}
 use Rattle.tables.specs.declared.refusal.Checked.{Checked}
 use Rattle.tables.specs.declared.refusal.Checked.the-variants.{Fit, Unfit}
 use Rattle.tables.specs.declared.refusal.Refusal.{Refusal}
@@ -26,10 +26,10 @@ use Rattle.hoglidra.specs.Row.{hasRow, readRow, rowStart, placeOf, rowFo
 use Rattle.bits.proofs.Bits.{bit-read}
 use Rattle.bits.proofs.Tests.{and-false-right, and-true}
 use Rattle.tables.proofs.Facts.{formed}
-use Rattle.tables.proofs.Offsets.{RunFacts, run-facts, below, rises}
+use Rattle.tables.proofs.Offsets.{VariableFacts, variable-facts, below, rises}
 use Rattle.tables.proofs.Stages.{refusing}
 use Rattle.tables.proofs.There.{row-valid-there, offset-there}
-use Rattle.tables.proofs.Views.{variable-bytes, offsetAt-number, rowsOf-by, run-kind-at}
+use Rattle.tables.proofs.Views.{variable-bytes, offsetAt-number, rowsOf-by, variable-kind-at}
 
 pub formed-column : (c : Column) {s : Checked} → checkedNumbers s ≡ columnRefusal c → s ≡ Fit → WellFormed c
 formed-column c e d = sym e ∙ ap checkedNumbers d
@@ -69,11 +69,11 @@ module _ (c : Column) (r : ℕ) where
       unfolding hasRow
       found e z = rw (w, valid-bit, bit-read (validAt (c .validity) (c .table .«validity_bit») r) e (eq-eqb _ 1 z), k, lt-ltb r (c .table .rows) h)
 
-      pub facts : RunFacts 1 c
+      pub facts : VariableFacts 1 c
       facts =
           let f = formed c w in
-          let l : layoutAt c ≡ Runs 1 = variable-bytes c k .1 in
-          run-facts (kindAt c) 1 c (rw l at (run-kind-at c (f .goodKind))) (rw l at f)
+          let l : layoutAt c ≡ VariableWidth 1 = variable-bytes c k .1 in
+          variable-facts (kindAt c) 1 c (rw l at (variable-kind-at c (f .goodKind))) (rw l at f)
 
       -- what the reads ask
       pub row-bit : isAbsent (c .validity) ≡ false → (c .table .«validity_bit» + r < 8 * length (c .validity)) × (c .table .«validity_bit» + r < 2 ^ 64)
@@ -95,7 +95,7 @@ module _ (c : Column) (r : ℕ) where
         unfolding rowFound
         row-at = rw (found v z, from-offset, to-offset)
 
-        pub row-inside : (from ≤ to) × (to ≤ length (c .values))
+        pub row-inside : (from ≤ to) × (to ≤ length (c .«data»))
         row-inside = (rw (from-offset, to-offset) (rises 1 c facts r h), rw (to-offset) (omega (arith, below 1 c facts (suc r) h)))
 
 -- ---- what is handed back, by what was found
@@ -133,11 +133,11 @@ module _ (c : Column) (r : ℕ) {f g : Found} (e : f ≡ rowFound c r) (d : f �
   pub place-found : (p : ℕ × ℕ) → placeOf (startOf g) p ≡ placeOf (rowStart c r) p
   place-found p = ap (λ (n : ℕ). placeOf n p) start-found
 
-  pub bytes-found : bytesOf (c .values) g ≡ readRow c r
+  pub bytes-found : bytesOf (c .«data») g ≡ readRow c r
   unfolding readRow hasRow
-  bytes-found = by (bytesOf (c .values)) (rowsOf c .bytes r) [] row refl
+  bytes-found = by (bytesOf (c .«data»)) (rowsOf c .bytes r) [] row refl
     where
-      row : hasRow c r ≡ true → part (offsetAt c r) (offsetAt c (suc r) - offsetAt c r) (c .values) ≡ rowsOf c .bytes r
+      row : hasRow c r ≡ true → part (offsetAt c r) (offsetAt c (suc r) - offsetAt c r) (c .«data») ≡ rowsOf c .bytes r
       row t =
           let A : Bool = passes (columnRefusal c) in
           let B : Bool = eqb (c .table .kind) 3 in

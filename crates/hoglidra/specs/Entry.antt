@@ -14,7 +14,7 @@ use Rattle.gathers.specs.Gather.{Outcome}
 use Rattle.hoglidra.specs.Answered.{answerBytes}
 
 abbrev pub outputAt : RefT (List ℕ) → RefT (List ℕ) → RefT (List ℕ) → Output
-outputAt v o d = record { validity = now v; offsets = now o; values = now d }
+outputAt v o d = record { validity = now v; offsets = now o; «data» = now d }
 
 abbrev pub outcome : Answer → Output → Outcome
 outcome a o = record { answer = a; output = o }

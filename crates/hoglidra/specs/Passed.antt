@@ -8,10 +8,10 @@ use Rattle.tables.specs.Answers.{accept, refusalNumbers}
 use Rattle.tables.specs.Columns.{Column, IndexColumn}
 use Rattle.tables.specs.Rows.{rowsOf}
 use Rattle.gathers.specs.Taken.{takeRows}
-use Rattle.gathers.specs.Stored.{valueLength}
+use Rattle.gathers.specs.Stored.{dataLength}
 use Rattle.gathers.specs.Buffers.{someOutside}
 use Rattle.variable.specs.declared.total.Measured.{Measured}
-use Rattle.variable.specs.declared.total.Measured.the-variants.{Bytes, Unfit as UnfitRuns}
+use Rattle.variable.specs.declared.total.Measured.the-variants.{Bytes, Unfit as UnfitVariable}
 use Rattle.hoglidra.specs.declared.check.Passed.{Passed}
 use Rattle.hoglidra.specs.declared.check.Passed.the-variants.{Fit, Unfit}
 
@@ -27,9 +27,9 @@ unfitOf (UnfitStage r) = Unfit r
 
 abbrev pub overflowedOf : Measured → Passed
 overflowedOf (Bytes n) = Fit n false
-overflowedOf (UnfitRuns r) = Unfit r
+overflowedOf (UnfitVariable r) = Unfit r
 
 -- where nothing is refused: the data bytes that the taken rows need, and whether some number is that of no row
 abbrev pub Told : Column → IndexColumn → Passed → Type 0
-Told c x (Fit total outside) = (total ≡ valueLength (rowsOf c .layout) (takeRows (rowsOf c) x)) × (outside ≡ someOutside (c .table .rows) x)
+Told c x (Fit total outside) = (total ≡ dataLength (rowsOf c .layout) (takeRows (rowsOf c) x)) × (outside ≡ someOutside (c .table .rows) x)
 Told c x (Unfit r) = Unit {0}

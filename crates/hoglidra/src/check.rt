@@ -100,7 +100,7 @@ pub fn check(
     let lent = Lengths {
         validity: out_validity.len() as u64,
         offsets: out_offsets.len() as u64,
-        values: out_data.len() as u64,
+        data: out_data.len() as u64,
     };
     let needed = needed_lengths(table, indices.count, total);
     let spaced = check_space(needed, lent);

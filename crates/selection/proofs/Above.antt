@@ -22,10 +22,10 @@ pub above-most : (w a : ℕ) {m : ℕ} → m + 1 ≡ 256 ^ w → m < a → (m < 
 above-most w a {m} e h = (omega arith, λ x l. le-ltb m x (omega arith) ∙ sym (le-ltb a x (omega arith)))
 
 -- some number of an index column of w bytes is above what stands for the last of n rows
-pub above-outside : (n w last : ℕ) (x : IndexColumn) → AllBytes (x .values) → x .indices .width ≡ w → (n ≡ 0 → ⊥)
+pub above-outside : (n w last : ℕ) (x : IndexColumn) → AllBytes (x .«data») → x .indices .width ≡ w → (n ≡ 0 → ⊥)
     → ((m : ℕ) → m < 256 ^ w → ltb last m ≡ ltb (n - 1) m)
-    → any (x .indices .count) (λ j. ltb last (numberAt w (x .values) j)) ≡ someOutside n x
+    → any (x .indices .count) (λ j. ltb last (numberAt w (x .«data») j)) ≡ someOutside n x
 above-outside n w last x b e some same =
     let one : suc (n - 1) ≡ n = omega arith in
     outside-by n x
-    (λ j h. same (numberAt w (x .values) j) (numberAt-lt w (x .values) j b) ∙ ap (λ (k : ℕ). leb k (numberAt w (x .values) j)) one ∙ ap (leb n) (index-read x j e refl))
+    (λ j h. same (numberAt w (x .«data») j) (numberAt-lt w (x .«data») j b) ∙ ap (λ (k : ℕ). leb k (numberAt w (x .«data») j)) one ∙ ap (leb n) (index-read x j e refl))

@@ -1,4 +1,4 @@
-// Bits gathered by an index column: Rust's `take_bits`, for validity and for boolean data. A byte of eight bits at a time, spare bits 0.
+// BitMap gathered by an index column: Rust's `take_bits`, for validity and for boolean data. A byte of eight bits at a time, spare bits 0.
 // A null index gives 0, and the number under it is not used to read: the validity of eight indices is read at once, and a bit of it masks the
 // place that is read and what is read there, so that no branch depends on it.
 use bits::number::number_at;

@@ -13,14 +13,14 @@ use Rattle.bits.specs.Bytes.{overwrite}
 use Rattle.bits.specs.Bits.{bitValue, bytesFor, pack, isAbsent}
 use Rattle.tables.specs.declared.table.Kind.{Kind}
 use Rattle.tables.specs.declared.table.Kind.the-variants.{Unknown}
-use Rattle.tables.specs.declared.table.Layout.the-variants.{Blocks, Bits, Runs}
+use Rattle.tables.specs.declared.table.Layout.the-variants.{FixedWidth, BitMap, VariableWidth}
 use Rattle.tables.specs.Kinds.{kindOf, layoutOf, copiesUnderNull}
 use Rattle.tables.specs.Columns.{Column, IndexColumn, kindAt, layoutAt, indexValid, index}
 use Rattle.tables.specs.Refusals.{maxRows, maxBytes, maxBit, WellFormed}
 use Rattle.tables.specs.Bounds.{maxBlock, RowFits, Bounds}
 use Rattle.tables.specs.Rows.{Rows, rowsOf}
 use Rattle.gathers.specs.Taken.{takeRows}
-use Rattle.gathers.specs.Stored.{validityBytes, offsetBytes, valueBytes, valueLength, nullCount, storeOffsets}
+use Rattle.gathers.specs.Stored.{validityBytes, offsetBytes, dataBytes, dataLength, nullCount, storeOffsets}
 use Rattle.gathers.specs.Ready.{Ready}
 use Rattle.gathers.specs.Buffers.{takenBit, takenBitValid, takenBlock}
 use Rattle.selection.specs.Reach.{Reaches}
@@ -32,7 +32,7 @@ use Rattle.tables.proofs.Stages.{sized-row-fits, sized-bounds, well-formed-size
 use Rattle.tables.proofs.There.{row-valid-there}
 use Rattle.tables.proofs.Views.{kindAt-number, layoutAt-kind}
 use Rattle.gathers.proofs.Buffers.{valid-below, validity-by-buffer, nulls-by-buffer, blocks-by-buffer, bits-by-buffer}
-use Rattle.gathers.proofs.Lengths.{blocks-length, bits-length, offsets-of-blocks, offsets-of-bits, offsets-of-runs}
+use Rattle.gathers.proofs.Lengths.{blocks-length, bits-length, offsets-of-blocks, offsets-of-bits, offsets-of-variable}
 
 -- the kind and the layout, as the code finds them
 module _ (c : Column) where
@@ -61,11 +61,11 @@ module _ (c : Column) (x : IndexColumn) (r : Ready c x) where
   pub ready-count : x .indices .count ≤ maxRows
   ready-count = ready-indices .count
 
-  ready-block : (n : ℕ) → layoutAt c ≡ Blocks n → n ≤ maxBlock
+  ready-block : (n : ℕ) → layoutAt c ≡ FixedWidth n → n ≤ maxBlock
   ready-block n e = fits-at ready-bounds e
 
   -- the products and sums that the measure makes
-  pub ready-bytes : (n : ℕ) → layoutAt c ≡ Blocks n → x .indices .count * n ≤ maxRows * maxBlock
+  pub ready-bytes : (n : ℕ) → layoutAt c ≡ FixedWidth n → x .indices .count * n ≤ maxRows * maxBlock
   ready-bytes n e = mul-le-mul ready-count (ready-block n e)
 
   -- the taken rows
@@ -97,18 +97,18 @@ module _ (c : Column) (x : IndexColumn) (r : Ready c x) where
 
   -- ---- blocks
 
-  module _ (n : ℕ) (e : layoutAt c ≡ Blocks n) where
-    pub blocked : {out : List ℕ} → valueLength (layoutAt c) v ≤ length out → Blocked n (c .table .rows) x (c .values) out
+  module _ (n : ℕ) (e : layoutAt c ≡ FixedWidth n) where
+    pub blocked : {out : List ℕ} → dataLength (layoutAt c) v ≤ length out → Blocked n (c .table .rows) x (c .«data») out
     blocked room = record {
       indices = r .indices;
       size = ready-block n e;
       few = facts .rows;
-      there = ltb-false (length (c .values)) (c .table .rows * n) (rw e at (facts .valuesFit));
+      there = ltb-false (length (c .«data»)) (c .table .rows * n) (rw e at (facts .dataFit));
       room = rw (blocks-length c x n e) at room;
     }
 
     pub blocks-stored : (underNull : Bool) (s : List ℕ) {d : List ℕ} → copiesUnderNull (kindAt c) (c .table .size) ≡ underNull
-        → d ≡ overwrite (concat (x .indices .count) (takenBlock underNull (c .table .rows) n (c .values) x)) s → d ≡ overwrite (valueBytes (layoutAt c) v) s
+        → d ≡ overwrite (concat (x .indices .count) (takenBlock underNull (c .table .rows) n (c .«data») x)) s → d ≡ overwrite (dataBytes (layoutAt c) v) s
     blocks-stored underNull s k h = rw (blocks-by-buffer c x n e, k) h
 
     pub blocks-keep : (s : List ℕ) → s ≡ storeOffsets (layoutAt c) v s
@@ -116,24 +116,24 @@ module _ (c : Column) (x : IndexColumn) (r : Ready c x) where
 
   -- ---- bits
 
-  module _ (e : layoutAt c ≡ Bits) where
-    pub data-reached : Reaches (c .table .«data_bit») (c .values) x
+  module _ (e : layoutAt c ≡ BitMap) where
+    pub data-reached : Reaches (c .table .«data_bit») (c .«data») x
     data-reached =
-        let fits : bytesFor (c .table .«data_bit» + c .table .rows) ≤ length (c .values) =
-        ltb-false (length (c .values)) (bytesFor (c .table .«data_bit» + c .table .rows)) (rw e at (facts .valuesFit)) in
-        record { small = facts .values; inside = λ j h i. let l : index x j < c .table .rows = below j h i in omega arith }
+        let fits : bytesFor (c .table .«data_bit» + c .table .rows) ≤ length (c .«data») =
+        ltb-false (length (c .«data»)) (bytesFor (c .table .«data_bit» + c .table .rows)) (rw e at (facts .dataFit)) in
+        record { small = facts .«data»; inside = λ j h i. let l : index x j < c .table .rows = below j h i in omega arith }
 
-    pub bits-room : {room : ℕ} → valueLength (layoutAt c) v ≤ room → bytesFor (x .indices .count) ≤ room
+    pub bits-room : {room : ℕ} → dataLength (layoutAt c) v ≤ room → bytesFor (x .indices .count) ≤ room
     bits-room room = rw (bits-length c x e) at room
 
     pub bits-stored : (s : List ℕ) {d : List ℕ} → copiesUnderNull (kindAt c) (c .table .size) ≡ false
-        → d ≡ overwrite (pack (x .indices .count) (takenBit (c .values) (c .table .«data_bit») x)) s → d ≡ overwrite (valueBytes (layoutAt c) v) s
+        → d ≡ overwrite (pack (x .indices .count) (takenBit (c .«data») (c .table .«data_bit») x)) s → d ≡ overwrite (dataBytes (layoutAt c) v) s
     bits-stored s k h = rw (bits-by-buffer c x e k) h
 
     pub bits-keep : (s : List ℕ) → s ≡ storeOffsets (layoutAt c) v s
     bits-keep s = sym (offsets-of-bits c x s e)
 
-  -- ---- runs
+  -- ---- variable width
 
-  pub runs-stored : (u : ℕ) (s : List ℕ) {t : List ℕ} → layoutAt c ≡ Runs u → t ≡ overwrite (offsetBytes v) s → t ≡ storeOffsets (layoutAt c) v s
-  runs-stored u s e h = h ∙ sym (offsets-of-runs c x u s e)
+  pub variable-stored : (u : ℕ) (s : List ℕ) {t : List ℕ} → layoutAt c ≡ VariableWidth u → t ≡ overwrite (offsetBytes v) s → t ≡ storeOffsets (layoutAt c) v s
+  variable-stored u s e h = h ∙ sym (offsets-of-variable c x u s e)

@@ -2,7 +2,7 @@
 use mathlib.Core.Path.{_≡_, refl, sym, ap, _∙_}
 use Prim.Native.Nat.{ℕ}
 use Rattle.tables.specs.declared.table.Layout.{Layout}
-use Rattle.tables.specs.declared.table.Layout.the-variants.{Blocks, Bits, Runs}
+use Rattle.tables.specs.declared.table.Layout.the-variants.{FixedWidth, BitMap, VariableWidth}
 use Rattle.tables.specs.declared.refusal.Answer.{Answer}
 use Rattle.stages.specs.declared.space.Lengths.{Lengths}
 use Rattle.tables.specs.Kinds.{kindOf, layoutOf, copiesUnderNull}
@@ -11,7 +11,7 @@ use Rattle.tables.specs.Refusals.{WellFormed}
 use Rattle.tables.specs.Bounds.{RowFits, Bounds}
 use Rattle.tables.specs.Rows.{rowsBy, rowsOf}
 use Rattle.gathers.specs.Taken.{takeRows}
-use Rattle.gathers.specs.Stored.{Output, offsetLength, valueLength}
+use Rattle.gathers.specs.Stored.{Output, offsetLength, dataLength}
 use Rattle.gathers.specs.Gather.{spaceRefusal}
 use Rattle.stages.specs.Space.{offsetBytesFor, lengthsFor, lengthsRefusal, lentLengths}
 use Rattle.tables.proofs.Stages.{layout-told, sized-row-fits, sized-bounds, well-formed-sized}
@@ -38,11 +38,11 @@ module _ (c : Column) where
       where
         go : (l : Layout) → offsetBytesFor l (c .table .«offset_width») (x .indices .count)
             ≡ offsetLength l (takeRows (rowsBy (kindAt c) (copiesUnderNull (kindAt c) (c .table .size)) l c) x)
-        go (Blocks n) = refl
-        go Bits = refl
-        go (Runs u) = refl
+        go (FixedWidth n) = refl
+        go BitMap = refl
+        go (VariableWidth u) = refl
 
-    space-told : (o : Output) {total : ℕ} → total ≡ valueLength (rowsOf c .layout) (takeRows (rowsOf c) x)
+    space-told : (o : Output) {total : ℕ} → total ≡ dataLength (rowsOf c .layout) (takeRows (rowsOf c) x)
         → lengthsRefusal (lengthsFor (layoutOf (kindOf (c .table .kind)) (c .table .width) (c .table .size)) (c .table .«offset_width») (x .indices .count) total) (lentLengths o)
         ≡ spaceRefusal (takeRows (rowsOf c) x) o
     unfolding lengthsRefusal
@@ -50,5 +50,5 @@ module _ (c : Column) where
 
     pub space-checked : (o : Output) {a : Answer} {needed : Lengths} {total : ℕ} → a ≡ lengthsRefusal needed (lentLengths o)
         → needed ≡ lengthsFor (layoutOf (kindOf (c .table .kind)) (c .table .width) (c .table .size)) (c .table .«offset_width») (x .indices .count) total
-        → total ≡ valueLength (rowsOf c .layout) (takeRows (rowsOf c) x) → a ≡ spaceRefusal (takeRows (rowsOf c) x) o
+        → total ≡ dataLength (rowsOf c .layout) (takeRows (rowsOf c) x) → a ≡ spaceRefusal (takeRows (rowsOf c) x) o
     space-checked o e d t = e ∙ ap (λ (n : Lengths). lengthsRefusal n (lentLengths o)) d ∙ space-told o t

@@ -5,7 +5,7 @@ use lib.ListN.{length}
 use Rattle.bits.specs.Bits.{bytesFor}
 use Rattle.tables.specs.declared.refusal.Answer.{Answer}
 use Rattle.tables.specs.declared.table.Layout.{Layout}
-use Rattle.tables.specs.declared.table.Layout.the-variants.{Blocks, Bits, Runs}
+use Rattle.tables.specs.declared.table.Layout.the-variants.{FixedWidth, BitMap, VariableWidth}
 use Rattle.tables.specs.Answers.{firstOf}
 use Rattle.gathers.specs.Stored.{Output}
 use Rattle.gathers.specs.Gather.{spaceLine}
@@ -13,12 +13,12 @@ use Rattle.stages.specs.declared.space.Lengths.{Lengths}
 
 -- the offsets of count rows, of w bytes each
 abbrev pub offsetBytesFor : Layout → ℕ → ℕ → ℕ
-offsetBytesFor (Blocks n) w count = 0
-offsetBytesFor Bits w count = 0
-offsetBytesFor (Runs u) w count = suc count * w
+offsetBytesFor (FixedWidth n) w count = 0
+offsetBytesFor BitMap w count = 0
+offsetBytesFor (VariableWidth u) w count = suc count * w
 
 abbrev pub lengthsFor : Layout → ℕ → ℕ → ℕ → Lengths
-lengthsFor l w count values = record { validity = bytesFor count; offsets = offsetBytesFor l w count; values = values }
+lengthsFor l w count «data» = record { validity = bytesFor count; offsets = offsetBytesFor l w count; «data» = «data» }
 
 -- the first output that is shorter than it needs to be
 unfoldable pub lengthsRefusal : Lengths → Lengths → Answer
@@ -26,9 +26,9 @@ lengthsRefusal needed lent =
     firstOf
     (spaceLine 1 (needed .validity) (lent .validity)
     ∷ spaceLine 2 (needed .offsets) (lent .offsets)
-    ∷ spaceLine 3 (needed .values) (lent .values)
+    ∷ spaceLine 3 (needed .«data») (lent .«data»)
     ∷ [])
 
 -- the lengths of lent outputs
 abbrev pub lentLengths : Output → Lengths
-lentLengths o = record { validity = length (o .validity); offsets = length (o .offsets); values = length (o .values) }
+lentLengths o = record { validity = length (o .validity); offsets = length (o .offsets); «data» = length (o .«data») }

@@ -1,11 +1,11 @@
-// The size of the data output of every kind, with refusal 6. Only runs have a running total that can pass their offsets.
+// The size of the data output of every kind, with refusal 6. Only columns of variable width have a running total that can pass their offsets.
 use tables::table::Indices;
 use tables::table::Layout;
 use tables::table::Table;
 use tables::table::kind_of;
 use tables::table::layout_of;
 use variable::total::Measured;
-use variable::total::measure_runs;
+use variable::total::measure_variable;
 ghost use mathlib.Core.Path.{_≡_};
 ghost use Rattle.tables.specs.Columns.{columnAt, indexColumnAt};
 ghost use Rattle.tables.specs.Rows.{rowsOf};
@@ -29,9 +29,9 @@ pub fn measure(
     let kind = kind_of(table.kind);
     let layout = layout_of(kind, table);
     match layout {
-        Layout::Blocks(n) => Measured::Bytes(indices.count * n),
-        Layout::Bits => Measured::Bytes((indices.count + 7) / 8),
-        Layout::Runs(unit) => measure_runs(
+        Layout::FixedWidth(n) => Measured::Bytes(indices.count * n),
+        Layout::BitMap => Measured::Bytes((indices.count + 7) / 8),
+        Layout::VariableWidth(unit) => measure_variable(
             table,
             data,
             offsets,

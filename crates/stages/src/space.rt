@@ -17,7 +17,7 @@ ghost use Rattle.stages.specs.Space.{offsetBytesFor, lengthsFor, lengths
 pub struct Lengths {
     pub validity: u64,
     pub offsets: u64,
-    pub values: u64,
+    pub data: u64,
 }
 
 fn offset_length(layout: Layout, table: Table, count: u64) -> u64
@@ -26,25 +26,25 @@ fn offset_length(layout: Layout, table: Table, count: u64) -> u64
     ensures { λ r. ⌜ r ≡ offsetBytesFor layout (table .«offset_width») count ⌝ }
 {
     match layout {
-        Layout::Blocks(_) => 0,
-        Layout::Bits => 0,
-        Layout::Runs(_) => (count + 1) * table.offset_width,
+        Layout::FixedWidth(_) => 0,
+        Layout::BitMap => 0,
+        Layout::VariableWidth(_) => (count + 1) * table.offset_width,
     }
 }
 
-// What `count` rows of a table need, where their data needs `values` bytes.
-pub fn needed_lengths(table: Table, count: u64, values: u64) -> Lengths
+// What `count` rows of a table need, where their data needs `data` bytes.
+pub fn needed_lengths(table: Table, count: u64, data: u64) -> Lengths
     requires { ⌜ RowFits (kindOf (table .kind)) table ⌝ }
     requires { ⌜ Bounds (layoutOf (kindOf (table .kind)) (table .width) (table .size)) table ⌝ }
     requires { ⌜ count ≤ maxRows ⌝ }
-    ensures { λ r. ⌜ r ≡ lengthsFor (layoutOf (kindOf (table .kind)) (table .width) (table .size)) (table .«offset_width») count values ⌝ }
+    ensures { λ r. ⌜ r ≡ lengthsFor (layoutOf (kindOf (table .kind)) (table .width) (table .size)) (table .«offset_width») count «data» ⌝ }
 {
     let kind = kind_of(table.kind);
     let layout = layout_of(kind, table);
     Lengths {
         validity: (count + 7) / 8,
         offsets: offset_length(layout, table, count),
-        values,
+        data,
     }
 }
 
@@ -64,10 +64,10 @@ pub fn check_space(needed: Lengths, lent: Lengths) -> Checked
             total: needed.offsets,
         });
     }
-    if lent.values < needed.values {
+    if lent.data < needed.data {
         return Checked::Unfit(Refusal::Space {
             place: 3,
-            total: needed.values,
+            total: needed.data,
         });
     }
     Checked::Fit

@@ -8,8 +8,8 @@ use tables::table::Indices;
 use tables::table::Kind;
 use tables::table::Table;
 use tables::table::kind_of;
-use variable::run::take_bytes;
-use variable::run::take_list;
+use variable::take::take_bytes;
+use variable::take::take_list;
 ghost use mathlib.Core.Path.{_≡_};
 ghost use mathlib.Core.Bool.{true};
 ghost use Prim.Native.Nat.{_≤_};
@@ -19,7 +19,7 @@ ghost use Rattle.tables.specs.Columns.{columnAt, indexColumnAt, layoutAt};
 ghost use Rattle.tables.specs.Answers.{passes};
 ghost use Rattle.tables.specs.Rows.{rowsOf};
 ghost use Rattle.gathers.specs.Taken.{takeRows};
-ghost use Rattle.gathers.specs.Stored.{offsetLength, valueBytes, valueLength, storeOffsets};
+ghost use Rattle.gathers.specs.Stored.{offsetLength, dataBytes, dataLength, storeOffsets};
 ghost use Rattle.gathers.specs.Gather.{overflowRefusal};
 ghost use Rattle.gathers.specs.Ready.{Ready};
 ghost use Rattle.gathers.specs.Buffers.{Validates, someOutside};
@@ -39,13 +39,13 @@ pub fn take_values(
 )
     requires { ⌜ Ready (columnAt table «data» offsets validity) (indexColumnAt indices «index_data» «index_validity») ⌝ }
     requires { ⌜ (offsetLength (layoutAt (columnAt table «data» offsets validity)) (takeRows (rowsOf (columnAt table «data» offsets validity)) (indexColumnAt indices «index_data» «index_validity»)) ≤ length (now «out_offsets»))
-        × (valueLength (layoutAt (columnAt table «data» offsets validity)) (takeRows (rowsOf (columnAt table «data» offsets validity)) (indexColumnAt indices «index_data» «index_validity»)) ≤ length (now «out_data»)) ⌝ }
+        × (dataLength (layoutAt (columnAt table «data» offsets validity)) (takeRows (rowsOf (columnAt table «data» offsets validity)) (indexColumnAt indices «index_data» «index_validity»)) ≤ length (now «out_data»)) ⌝ }
     requires { ⌜ outside ≡ someOutside (table .rows) (indexColumnAt indices «index_data» «index_validity») ⌝ }
     requires { ⌜ passes (overflowRefusal (takeRows (rowsOf (columnAt table «data» offsets validity)) (indexColumnAt indices «index_data» «index_validity»))) ≡ true ⌝ }
     requires { ⌜ Validates (now validity) (table .«validity_bit») (indexColumnAt indices «index_data» «index_validity») (now valid) ⌝ }
     ensures { λ _. ⌜ now («out_offsets» .exit) ≡ storeOffsets (layoutAt (columnAt table («data» .entry) (offsets .entry) (validity .entry)))
         (takeRows (rowsOf (columnAt table («data» .entry) (offsets .entry) (validity .entry))) (indexColumnAt indices («index_data» .entry) («index_validity» .entry))) (now («out_offsets» .entry)) ⌝ }
-    ensures { λ _. ⌜ now («out_data» .exit) ≡ overwrite (valueBytes (layoutAt (columnAt table («data» .entry) (offsets .entry) (validity .entry)))
+    ensures { λ _. ⌜ now («out_data» .exit) ≡ overwrite (dataBytes (layoutAt (columnAt table («data» .entry) (offsets .entry) (validity .entry)))
         (takeRows (rowsOf (columnAt table («data» .entry) (offsets .entry) (validity .entry))) (indexColumnAt indices («index_data» .entry) («index_validity» .entry)))) (now («out_data» .entry)) ⌝ }
 {
     let kind = kind_of(table.kind);

@@ -11,7 +11,7 @@ use borrow.Author.Count.{below-more}
 use borrow.Author.Tests.{lt-ltb, le-ltb, ltb-true, ltb-false, eqb-true, eq-eqb}
 use Rattle.bits.specs.Sequences.{sum, first}
 use Rattle.tables.specs.declared.table.Kind.{Kind}
-use Rattle.tables.specs.declared.table.Layout.the-variants.{Runs}
+use Rattle.tables.specs.declared.table.Layout.the-variants.{VariableWidth}
 use Rattle.tables.specs.declared.table.Table.{Table}
 use Rattle.tables.specs.declared.table.Indices.{Indices}
 use Rattle.tables.specs.Kinds.{kindOf}
@@ -27,17 +27,17 @@ use Rattle.bits.proofs.Numbers.{width-one}
 use Rattle.tables.proofs.Bounds.{offset-width-8}
 use Rattle.tables.proofs.Facts.{index-formed}
 use Rattle.tables.proofs.Views.{kindAt-number}
-use Rattle.gathers.proofs.RunRows.{ready-facts, total-small, overflow-narrow, overflow-wide, runs-fit, runs-over}
+use Rattle.gathers.proofs.VariableRows.{ready-facts, total-small, overflow-narrow, overflow-wide, variable-fit, variable-over}
 use Rattle.variable.specs.declared.total.Counted.{Counted}
-use Rattle.variable.specs.Runs.{RunsReady}
+use Rattle.variable.specs.Taken.{VariableReady}
 use Rattle.variable.specs.Measured.{largestOffset, CountedTo, CountedAll}
 
 -- the buffers of a loop's invariant, as the column and the index column that they are
 abbrev pub columnOf : Table → List ℕ → List ℕ → List ℕ → Column
-columnOf t d o v = record { table = t; values = d; offsets = o; validity = v }
+columnOf t d o v = record { table = t; «data» = d; offsets = o; validity = v }
 
 abbrev pub indexColumnOf : Indices → List ℕ → List ℕ → IndexColumn
-indexColumnOf x d v = record { indices = x; values = d; validity = v }
+indexColumnOf x d v = record { indices = x; «data» = d; validity = v }
 
 -- j rows are counted, after none of which the total is above most
 pub record Counting (most : ℕ) (c : Column) (x : IndexColumn) (total j : ℕ) : Type 0 where
@@ -52,7 +52,7 @@ counting-start most c x = record { within = omega arith; counted = refl; low = �
 unfoldable above : ℕ → Column → IndexColumn → ℕ
 above most c x = first (x .indices .count) (λ j. ltb most (sum (suc j) (takenEntries c x)))
 
-module _ {c : Column} {x : IndexColumn} (r : RunsReady c x) where
+module _ {c : Column} {x : IndexColumn} (r : VariableReady c x) where
   abbrev w : ℕ
   w = c .table .«offset_width»
 
@@ -120,7 +120,7 @@ module _ {c : Column} {x : IndexColumn} (r : RunsReady c x) where
 
 -- ---- what refusal 6 says of the sum s of all rows: where it is at most the largest offset, so is each total on the way
 
-module _ {u : ℕ} {c : Column} {x : IndexColumn} (ready : Ready c x) (e : layoutAt c ≡ Runs u) {s : ℕ} (d : s ≡ sum (x .indices .count) (takenEntries c x)) where
+module _ {u : ℕ} {c : Column} {x : IndexColumn} (ready : Ready c x) (e : layoutAt c ≡ VariableWidth u) {s : ℕ} (d : s ≡ sum (x .indices .count) (takenEntries c x)) where
   pub bytes-fit : s * u < 2 ^ 64
   bytes-fit = rw d (omega (arith, total-small c x u e ready (x .indices .count) (le-refl (x .indices .count)) .1))
 
@@ -130,7 +130,7 @@ module _ {u : ℕ} {c : Column} {x : IndexColumn} (ready : Ready c x) (e : layou
       let n : ℕ = x .indices .count in
       let none : first n (λ j. ltb most (sum (suc j) (takenEntries c x))) ≡ n = first-none n (λ j. ltb most (sum (suc j) (takenEntries c x))) (λ j h. le-ltb most (sum (suc j) (takenEntries c x)) (omega (arith, d, l, sum-mono n (takenEntries c x) h))) in
       let a : above most c x ≡ overflowAt (layoutAt c) (takeRows (rowsOf c) x) = ap (λ (k : ℕ). above k c x) limit ∙ overflow-above (record { ready = ready; unit = u; layout = e }) in
-      runs-fit c x u e (sym a ∙ none) (ap (λ (t : ℕ). t * u) d)
+      variable-fit c x u e (sym a ∙ none) (ap (λ (t : ℕ). t * u) d)
 
   -- where it is above, so is some total: the row of refusal 6
   module _ {most : ℕ} (limit : most ≡ largestOffset (c .table .«offset_width»)) (l : most < s) {m : Counted} (k : CountedAll c x m) where
@@ -157,4 +157,4 @@ module _ {u : ℕ} {c : Column} {x : IndexColumn} (ready : Ready c x) (e : layou
     pub sum-over : {kind : Kind} {t : ℕ} → kind ≡ kindOf (c .table .kind) → t ≡ overflowTotal kind (m .after) (m .before) → refuse 6 (m .place) t ≡ measured (takeRows (rowsOf c) x)
     sum-over f g =
         ap (refuse 6 (m .place)) (g ∙ ap (λ (a : Kind). overflowTotal a (m .after) (m .before)) (f ∙ sym (kindAt-number c)))
-        ∙ runs-over c x u e (sym (k .there)) stops (rw (k .there) (k .after (rw (← k .there) stops))) (rw (k .there) (k .before))
+        ∙ variable-over c x u e (sym (k .there)) stops (rw (k .there) (k .after (rw (← k .there) stops))) (rw (k .there) (k .before))

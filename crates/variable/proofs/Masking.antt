@@ -20,12 +20,12 @@ use Rattle.gathers.specs.Buffers.{takenBitValid, Validates, takenEntries}
 use Rattle.bits.proofs.Bits.{bitValue-lt, bit-and}
 use Rattle.tables.proofs.Facts.{formed, index-formed}
 use Rattle.tables.proofs.There.{index-valid, index-read, index-there-at, index-valid-there, row-valid-there, offset-there}
-use Rattle.tables.proofs.Offsets.{RunFacts, rises}
+use Rattle.tables.proofs.Offsets.{VariableFacts, rises}
 use Rattle.tables.proofs.Views.{offsetAt-number}
 use Rattle.gathers.proofs.Buffers.{valid-below, validates-there, validates-bit, valid-null, valid-by-bit, valid-by-index, bit-named}
-use Rattle.gathers.proofs.RunRows.{ready-facts, taken-below, entries-valid, entries-null}
+use Rattle.gathers.proofs.VariableRows.{ready-facts, taken-below, entries-valid, entries-null}
 use Rattle.variable.specs.declared.row.Taken.{Taken}
-use Rattle.variable.specs.Runs.{takenRow, RunsReady}
+use Rattle.variable.specs.Taken.{takenRow, VariableReady}
 
 -- what a number that is 0 or 1 masks is no larger
 pub masked-fits : {n v : ℕ} → v ≤ 1 → Fits w64 n → Fits w64 (n * v)
@@ -45,7 +45,7 @@ module _ {c : Column} {x : IndexColumn} (ready : Ready c x) {w j : ℕ} (at : (x
   abbrev b : ℕ
   b = c .table .«validity_bit»
 
-  pub number-can : (isNumberWidth w ≡ true) × (j * w + w ≤ length (x .values))
+  pub number-can : (isNumberWidth w ≡ true) × (j * w + w ≤ length (x .«data»))
   number-can = index-there-at x (index-formed x (ready .indices .passed)) j (at .1) (at .0)
 
   pub index-bit-can : isAbsent (x .validity) ≡ false → (x .indices .«validity_bit» + j < 8 * length (x .validity)) × (x .indices .«validity_bit» + j < 2 ^ 64)
@@ -60,7 +60,7 @@ module _ {c : Column} {x : IndexColumn} (ready : Ready c x) {w j : ℕ} (at : (x
       pub shown-low : v ≤ 1
       shown-low = omega (arith, e, bitValue-lt (bitAt s j))
 
-      pub row-by-shown : {n : ℕ} → n ≡ numberAt w (x .values) j → record { row = n * v; valid = v } ≡ takenRow (takenBitValid (c .validity) b x j) (index x j)
+      pub row-by-shown : {n : ℕ} → n ≡ numberAt w (x .«data») j → record { row = n * v; valid = v } ≡ takenRow (takenBitValid (c .validity) b x j) (index x j)
       row-by-shown d =
           masked (takenBitValid (c .validity) b x j) (index x j) (e ∙ ap bitValue (validates-bit shows j (at .1))) (ap (λ (m : ℕ). m * v) (index-read x j (at .0) d))
 
@@ -71,7 +71,7 @@ module _ {c : Column} {x : IndexColumn} (ready : Ready c x) {w j : ℕ} (at : (x
     pub bit-low : v ≤ 1
     bit-low = omega (arith, valid-bit, bitValue-lt (indexValid x j))
 
-    module _ {n : ℕ} (d : n ≡ numberAt w (x .values) j) where
+    module _ {n : ℕ} (d : n ≡ numberAt w (x .«data») j) where
       number : n ≡ index x j
       number = index-read x j (at .0) d
 
@@ -120,10 +120,10 @@ module _ {c : Column} {x : IndexColumn} (ready : Ready c x) {w j : ℕ} (at : (x
 
 -- ---- the offsets of the row t, which are offset 0 twice where it is null
 
-module _ {c : Column} {x : IndexColumn} (runs : RunsReady c x) {ow j : ℕ} (at : (c .table .«offset_width» ≡ ow) × (j < x .indices .count))
+module _ {c : Column} {x : IndexColumn} (variable : VariableReady c x) {ow j : ℕ} (at : (c .table .«offset_width» ≡ ow) × (j < x .indices .count))
     {t : Taken} (e : t ≡ takenRow (takenBitValid (c .validity) (c .table .«validity_bit») x j) (index x j)) where
-  facts : RunFacts (runs .unit) c
-  facts = ready-facts c x (runs .unit) (runs .layout) (runs .ready)
+  facts : VariableFacts (variable .unit) c
+  facts = ready-facts c x (variable .unit) (variable .layout) (variable .ready)
 
   abbrev valid : Bool
   valid = takenBitValid (c .validity) (c .table .«validity_bit») x j
@@ -132,11 +132,11 @@ module _ {c : Column} {x : IndexColumn} (runs : RunsReady c x) {ow j : ℕ} (at 
   end-below = go valid refl e
     where
       go : (s : Bool) → valid ≡ s → t ≡ takenRow s (index x j) → t .row + t .valid ≤ c .table .rows
-      go true f g = rw g (omega (arith, taken-below c x (runs .unit) (runs .layout) (runs .ready) j (at .1) f))
+      go true f g = rw g (omega (arith, taken-below c x (variable .unit) (variable .layout) (variable .ready) j (at .1) f))
       go false f g = rw g (omega arith)
 
   pub end-few : t .row + t .valid ≤ maxRows
-  end-few = omega (arith, end-below, formed c (runs .ready .column) .rows)
+  end-few = omega (arith, end-below, formed c (variable .ready .column) .rows)
 
   offset-can : (i : ℕ) → i ≤ c .table .rows → (isNumberWidth ow ≡ true) × (i * ow + ow ≤ length (c .offsets))
   offset-can i h = rw (sym (at .0)) (offset-there (c .table .«offset_width») (c .table .rows) (c .offsets) (facts .width) (facts .fits) i h)
@@ -158,9 +158,9 @@ module _ {c : Column} {x : IndexColumn} (runs : RunsReady c x) {ow j : ℕ} (at 
       go true h k a b =
           let y : start ≡ offsetAt c (index x j) = rw k at a in
           let z : end ≡ offsetAt c (suc (index x j)) = (rw k at b) ∙ ap (offsetAt c) (add-one (index x j)) in
-          let l : index x j < c .table .rows = taken-below c x (runs .unit) (runs .layout) (runs .ready) j (at .1) h in
-          rw (y, z) (rises (runs .unit) c facts (index x j) l, sym (entries-valid c x (runs .unit) j h))
+          let l : index x j < c .table .rows = taken-below c x (variable .unit) (variable .layout) (variable .ready) j (at .1) h in
+          rw (y, z) (rises (variable .unit) c facts (index x j) l, sym (entries-valid c x (variable .unit) j h))
       go false h k a b =
           let y : start ≡ offsetAt c 0 = rw k at a in
           let z : end ≡ offsetAt c 0 = rw k at b in
-          (omega (arith, y, z), rw (entries-null c x (runs .unit) j h) (omega (arith, y, z)))
+          (omega (arith, y, z), rw (entries-null c x (variable .unit) j h) (omega (arith, y, z)))

@@ -20,9 +20,9 @@ use Rattle.bits.proofs.Bytes.{overwrite-tail, block-inside}
 use Rattle.bits.proofs.Numbers.{length-toLittleEndian, numberAt-concat}
 use Rattle.bits.proofs.Sequences.{length-blocks}
 use Rattle.tables.proofs.Bounds.{offset-number-width}
-use Rattle.gathers.proofs.RunRows.{offsets-by-buffer, total-small, total-offset}
-use Rattle.variable.specs.Copied.{RunsShown, Totals}
-use Rattle.variable.proofs.Showing.{run-facts-at}
+use Rattle.gathers.proofs.VariableRows.{offsets-by-buffer, total-small, total-offset}
+use Rattle.variable.specs.Copied.{VariableShown, Totals}
+use Rattle.variable.proofs.Showing.{variable-facts-at}
 
 -- the offsets of the first j rows, of w bytes each
 abbrev offsetsTo : ℕ → Column → IndexColumn → ℕ → List ℕ
@@ -45,12 +45,12 @@ put-offset w c x j s₀ e d f =
     let n : length (offsetsTo w c x j) ≡ j * w = length-blocks j w (λ i. toLittleEndian w (sum i (takenEntries c x))) (λ i l. length-toLittleEndian w (sum i (takenEntries c x))) in
     f ∙ rw (d, e, add-one j) (overwrite-tail (offsetsTo w c x j) (toLittleEndian w (sum j (takenEntries c x))) s₀ (j * w) n)
 
-module _ {u : ℕ} {c : Column} {x : IndexColumn} {v : List ℕ} (r : RunsShown u c x v) {w : ℕ} (e : c .table .«offset_width» ≡ w) where
+module _ {u : ℕ} {c : Column} {x : IndexColumn} {v : List ℕ} (r : VariableShown u c x v) {w : ℕ} (e : c .table .«offset_width» ≡ w) where
   module _ {s₀ s : List ℕ} {total j : ℕ} (i : Started w c x s₀ s total j) where
     pub offset-room : suc (x .indices .count) * c .table .«offset_width» ≤ length s₀ → (isNumberWidth w ≡ true) × (j * w + w ≤ length s)
     offset-room h =
         let fits : suc (x .indices .count) * w ≤ length s₀ = rw e at h in (
-          rw (sym e) (offset-number-width (c .table .«offset_width») (run-facts-at r .width)),
+          rw (sym e) (offset-number-width (c .table .«offset_width») (variable-facts-at r .width)),
           omega (arith, i .long, block-inside j (suc (x .indices .count)) w (omega (arith, i .within))),
         )
 
@@ -77,7 +77,7 @@ module _ {u : ℕ} {c : Column} {x : IndexColumn} {v : List ℕ} (r : RunsShown 
         ∙ ap (λ (b : List ℕ). overwrite b s₀) (sym (offsets-by-buffer c x u (r .layout)))
 
 -- past refusal 6 the offsets that are written are read back
-pub totals-written : {u : ℕ} {c : Column} {x : IndexColumn} {v : List ℕ} (s₀ : List ℕ) {s : List ℕ} → RunsShown u c x v → suc (x .indices .count) * c .table .«offset_width» ≤ length s → passes (overflowRefusal (takeRows (rowsOf c) x)) ≡ true
+pub totals-written : {u : ℕ} {c : Column} {x : IndexColumn} {v : List ℕ} (s₀ : List ℕ) {s : List ℕ} → VariableShown u c x v → suc (x .indices .count) * c .table .«offset_width» ≤ length s → passes (overflowRefusal (takeRows (rowsOf c) x)) ≡ true
     → s ≡ overwrite (offsetBytes (takeRows (rowsOf c) x)) s₀ → Totals c x s
 totals-written {u} {c} {x} s₀ r room p d = record {
   there = room;

@@ -8,16 +8,16 @@ use Rattle.bits.specs.Sequences.{concat, sum}
 use Rattle.bits.specs.Bytes.{part}
 use Rattle.bits.specs.Numbers.{numberAt, isNumberWidth}
 use Rattle.bits.specs.Bits.{bytesFor}
-use Rattle.tables.specs.declared.table.Layout.the-variants.{Runs}
+use Rattle.tables.specs.declared.table.Layout.the-variants.{VariableWidth}
 use Rattle.tables.specs.Columns.{Column, IndexColumn, layoutAt, offsetAt}
 use Rattle.tables.specs.Refusals.{maxRows}
 use Rattle.gathers.specs.Ready.{Ready}
-use Rattle.gathers.specs.Buffers.{takenEntries, takenRun, Validates}
+use Rattle.gathers.specs.Buffers.{takenEntries, takenBytes, Validates}
 
--- a column of runs, with entries of u bytes, and an index column that pass refusals 1 to 5, and the validity of the output rows as it is written in s
-pub record RunsShown (u : ℕ) (c : Column) (x : IndexColumn) (s : List ℕ) : Type 0 where
+-- a column of variable width, with entries of u bytes, and an index column that pass refusals 1 to 5, and the validity of the output rows as it is written in s
+pub record VariableShown (u : ℕ) (c : Column) (x : IndexColumn) (s : List ℕ) : Type 0 where
   pub ready : Ready c x
-  pub layout : layoutAt c ≡ Runs u
+  pub layout : layoutAt c ≡ VariableWidth u
   pub shows : Validates (c .validity) (c .table .«validity_bit») x s
 
 -- s begins with the running totals of the output rows, and after the last the total
@@ -25,15 +25,15 @@ pub record Totals (c : Column) (x : IndexColumn) (s : List ℕ) : Type 0 where
   pub there : suc (x .indices .count) * c .table .«offset_width» ≤ length s
   pub totals : (i : ℕ) → i ≤ x .indices .count → numberAt (c .table .«offset_width») s i ≡ sum i (takenEntries c x)
 
--- the first j runs are at the front of s, and after those of all rows it is as s₀ was
-pub record RunsCopied (u : ℕ) (c : Column) (x : IndexColumn) (s₀ s : List ℕ) (j : ℕ) : Type 0 where
-  pub front : take (sum j (takenEntries c x) * u) s ≡ concat j (takenRun u c x)
+-- the first j rows are at the front of s, and after those of all rows it is as s₀ was
+pub record RowsCopied (u : ℕ) (c : Column) (x : IndexColumn) (s₀ s : List ℕ) (j : ℕ) : Type 0 where
+  pub front : take (sum j (takenEntries c x) * u) s ≡ concat j (takenBytes u c x)
   pub rest : drop (sum (x .indices .count) (takenEntries c x) * u) s ≡ drop (sum (x .indices .count) (takenEntries c x) * u) s₀
   pub long : length s ≡ length s₀
 
--- where the runs are copied by: the validity and the running totals of the output rows, how much of the data is theirs, and of the output
+-- where the rows are copied by: the validity and the running totals of the output rows, how much of the data is theirs, and of the output
 pub record CopyReady (u w needed used : ℕ) (c : Column) (x : IndexColumn) (valid starts : List ℕ) : Type 0 where
-  pub shown : RunsShown u c x valid
+  pub shown : VariableShown u c x valid
   pub totals : Totals c x starts
   pub width : c .table .«offset_width» ≡ w
   pub source : needed ≡ offsetAt c (c .table .rows) * u
@@ -63,7 +63,7 @@ pub record RowRoom (u ow w needed used j bytes lent : ℕ) (offsets numbers star
   pub room : used ≤ lent
 
 -- the bytes of s from `from` come after the first `at` of o, up to `end`, and from `used` on it is as o₀ was
-pub record RunPut (from at end used : ℕ) (s o₀ o : List ℕ) : Type 0 where
+pub record RowPut (from at end used : ℕ) (s o₀ o : List ℕ) : Type 0 where
   pub front : take end o ≡ take at o₀ ++ part from (end - at) s
   pub rest : drop used o ≡ drop used o₀
 

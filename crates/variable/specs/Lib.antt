@@ -1,3 +1,3 @@
-pub mod Runs
+pub mod Taken
 pub mod Measured
 pub mod Copied

@@ -1,4 +1,4 @@
-// One output row of a column of runs, without a branch on its validity: the row that it has, and how many entries it has. A null output row has
+// One output row of a column of variable width, without a branch on its validity: the row that it has, and how many entries it has. A null output row has
 // neither. Its validity is that of its index and of the row, or, once it is written, that of the output.
 use bits::number::number_at;
 use bits::number::wide;
@@ -13,7 +13,7 @@ ghost use Rattle.bits.specs.Bits.{bitValue, bitAt, isAbsent, validAt};
 ghost use Rattle.tables.specs.Columns.{columnAt, indexColumnAt, index};
 ghost use Rattle.gathers.specs.Buffers.{takenBitValid, Validates, takenEntries};
 ghost use Rattle.gathers.specs.Ready.{Ready};
-ghost use Rattle.variable.specs.Runs.{takenRow, RunsReady};
+ghost use Rattle.variable.specs.Taken.{takenRow, VariableReady};
 
 // The row of an output row, and 1; 0 and 0 where the output row is null.
 pub struct Taken {
@@ -108,7 +108,7 @@ fn entries_of(
     index_validity: &[u8],
     j: usize,
 ) -> u64
-    requires { ⌜ RunsReady (columnAt table «data» offsets validity) (indexColumnAt indices «index_data» «index_validity») ⌝ }
+    requires { ⌜ VariableReady (columnAt table «data» offsets validity) (indexColumnAt indices «index_data» «index_validity») ⌝ }
     requires { ⌜ (table .«offset_width» ≡ ow) × (j < indices .count) ⌝ }
     requires { ⌜ taken ≡ takenRow (takenBitValid (now validity) (table .«validity_bit») (indexColumnAt indices «index_data» «index_validity») j) (index (indexColumnAt indices «index_data» «index_validity») j) ⌝ }
     ensures { λ r. ⌜ r ≡ takenEntries (columnAt table («data» .entry) (offsets .entry) (validity .entry)) (indexColumnAt indices («index_data» .entry) («index_validity» .entry)) j ⌝ }
@@ -130,7 +130,7 @@ pub fn masked_entries(
     index_validity: &[u8],
     j: usize,
 ) -> u64
-    requires { ⌜ RunsReady (columnAt table «data» offsets validity) (indexColumnAt indices «index_data» «index_validity») ⌝ }
+    requires { ⌜ VariableReady (columnAt table «data» offsets validity) (indexColumnAt indices «index_data» «index_validity») ⌝ }
     requires { ⌜ (table .«offset_width» ≡ ow) × (indices .width ≡ w) × (j < indices .count) ⌝ }
     ensures { λ r. ⌜ r ≡ takenEntries (columnAt table («data» .entry) (offsets .entry) (validity .entry)) (indexColumnAt indices («index_data» .entry) («index_validity» .entry)) j ⌝ }
 {
@@ -173,7 +173,7 @@ pub fn shown_entries(
     valid: &[u8],
     j: usize,
 ) -> u64
-    requires { ⌜ RunsReady (columnAt table «data» offsets validity) (indexColumnAt indices «index_data» «index_validity») ⌝ }
+    requires { ⌜ VariableReady (columnAt table «data» offsets validity) (indexColumnAt indices «index_data» «index_validity») ⌝ }
     requires { ⌜ Validates (now validity) (table .«validity_bit») (indexColumnAt indices «index_data» «index_validity») (now valid) ⌝ }
     requires { ⌜ (table .«offset_width» ≡ ow) × (indices .width ≡ w) × (j < indices .count) ⌝ }
     ensures { λ r. ⌜ r ≡ takenEntries (columnAt table («data» .entry) (offsets .entry) (validity .entry)) (indexColumnAt indices («index_data» .entry) («index_validity» .entry)) j ⌝ }

@@ -8,14 +8,14 @@ use tables::table::Table;
 use tables::table::kind_of;
 ghost use mathlib.Core.Path.{_≡_};
 ghost use Rattle.bits.specs.Sequences.{sum};
-ghost use Rattle.tables.specs.declared.table.Layout.the-variants.{Runs};
+ghost use Rattle.tables.specs.declared.table.Layout.the-variants.{VariableWidth};
 ghost use Rattle.tables.specs.Columns.{columnAt, indexColumnAt, layoutAt};
 ghost use Rattle.tables.specs.Rows.{rowsOf};
 ghost use Rattle.gathers.specs.Taken.{takeRows};
 ghost use Rattle.gathers.specs.Gather.{overflowTotal, measured};
 ghost use Rattle.gathers.specs.Buffers.{takenEntries};
 ghost use Rattle.gathers.specs.Ready.{Ready};
-ghost use Rattle.variable.specs.Runs.{RunsReady};
+ghost use Rattle.variable.specs.Taken.{VariableReady};
 ghost use Rattle.variable.specs.Measured.{measuredNumbers, largestOffset, CountedAll};
 
 // How many bytes the rows need, or why they cannot be gathered.
@@ -52,7 +52,7 @@ fn sum_by(
     numbers: &[u8],
     valid: &[u8],
 ) -> u64
-    requires { ⌜ RunsReady (columnAt table src offsets validity) (indexColumnAt indices numbers valid) ⌝ }
+    requires { ⌜ VariableReady (columnAt table src offsets validity) (indexColumnAt indices numbers valid) ⌝ }
     requires { ⌜ (table .«offset_width» ≡ ow) × (indices .width ≡ w) ⌝ }
     ensures { λ r. ⌜ r ≡ sum (indices .count) (takenEntries (columnAt table (src .entry) (offsets .entry) (validity .entry)) (indexColumnAt indices (numbers .entry) (valid .entry))) ⌝ }
 {
@@ -87,7 +87,7 @@ fn sum_narrow(
     numbers: &[u8],
     valid: &[u8],
 ) -> u64
-    requires { ⌜ RunsReady (columnAt table src offsets validity) (indexColumnAt indices numbers valid) ⌝ }
+    requires { ⌜ VariableReady (columnAt table src offsets validity) (indexColumnAt indices numbers valid) ⌝ }
     requires { ⌜ table .«offset_width» ≡ 4 ⌝ }
     ensures { λ r. ⌜ r ≡ sum (indices .count) (takenEntries (columnAt table (src .entry) (offsets .entry) (validity .entry)) (indexColumnAt indices (numbers .entry) (valid .entry))) ⌝ }
 {
@@ -110,7 +110,7 @@ fn sum_wide(
     numbers: &[u8],
     valid: &[u8],
 ) -> u64
-    requires { ⌜ RunsReady (columnAt table src offsets validity) (indexColumnAt indices numbers valid) ⌝ }
+    requires { ⌜ VariableReady (columnAt table src offsets validity) (indexColumnAt indices numbers valid) ⌝ }
     requires { ⌜ table .«offset_width» ≡ 8 ⌝ }
     ensures { λ r. ⌜ r ≡ sum (indices .count) (takenEntries (columnAt table (src .entry) (offsets .entry) (validity .entry)) (indexColumnAt indices (numbers .entry) (valid .entry))) ⌝ }
 {
@@ -133,7 +133,7 @@ fn sum_entries(
     numbers: &[u8],
     valid: &[u8],
 ) -> u64
-    requires { ⌜ RunsReady (columnAt table src offsets validity) (indexColumnAt indices numbers valid) ⌝ }
+    requires { ⌜ VariableReady (columnAt table src offsets validity) (indexColumnAt indices numbers valid) ⌝ }
     ensures { λ r. ⌜ r ≡ sum (indices .count) (takenEntries (columnAt table (src .entry) (offsets .entry) (validity .entry)) (indexColumnAt indices (numbers .entry) (valid .entry))) ⌝ }
 {
     if table.offset_width == 4 {
@@ -152,7 +152,7 @@ fn count_entries(
     index_data: &[u8],
     index_validity: &[u8],
 ) -> Counted
-    requires { ⌜ RunsReady (columnAt table «data» offsets validity) (indexColumnAt indices «index_data» «index_validity») ⌝ }
+    requires { ⌜ VariableReady (columnAt table «data» offsets validity) (indexColumnAt indices «index_data» «index_validity») ⌝ }
     ensures { λ r. ⌜ CountedAll (columnAt table («data» .entry) (offsets .entry) (validity .entry)) (indexColumnAt indices («index_data» .entry) («index_validity» .entry)) r ⌝ }
 {
     let most = largest_offset(table.offset_width);
@@ -206,7 +206,7 @@ fn overflow_total(kind: Kind, new: u64, old: u64) -> u64
 }
 
 // The data bytes that the gathered rows need, or refusal 6. An entry has `unit` bytes.
-pub fn measure_runs(
+pub fn measure_variable(
     table: Table,
     data: &[u8],
     offsets: &[u8],
@@ -217,7 +217,7 @@ pub fn measure_runs(
     unit: u64,
 ) -> Measured
     requires { ⌜ Ready (columnAt table «data» offsets validity) (indexColumnAt indices «index_data» «index_validity») ⌝ }
-    requires { ⌜ layoutAt (columnAt table «data» offsets validity) ≡ Runs unit ⌝ }
+    requires { ⌜ layoutAt (columnAt table «data» offsets validity) ≡ VariableWidth unit ⌝ }
     ensures { λ r. ⌜ measuredNumbers r ≡ measured (takeRows (rowsOf (columnAt table («data» .entry) (offsets .entry) (validity .entry))) (indexColumnAt indices («index_data» .entry) («index_validity» .entry))) ⌝ }
 {
     let sum = sum_entries(

@@ -3,8 +3,8 @@ use borrow.Author.Needs.{needs}
 use Rattle.checks.proofs.sizes.too_short.Statement.{statement}
 use Rattle.checks.proofs.sizes.too_short.Tie as tie
 
-values-short-requires : tie.Need-values-short-requires
-values-short-requires c κs = search needs
+data-short-requires : tie.Need-data-short-requires
+data-short-requires c κs = search needs
 
 validity-short-requires : tie.Need-validity-short-requires
 validity-short-requires c κs = search needs
@@ -13,4 +13,4 @@ returns : tie.Need-returns
 returns c = cc
 
 pub too-short-spec : {M : Type 1} → statement M
-too-short-spec = tie.close (tie.spec values-short-requires validity-short-requires returns)
+too-short-spec = tie.close (tie.spec data-short-requires validity-short-requires returns)

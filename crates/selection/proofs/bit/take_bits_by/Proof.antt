@@ -17,7 +17,7 @@ use Rattle.selection.proofs.bit.take_bits_by.Tie as tie
 abbrev Inv-loop : tie.InvT-loop
 Inv-loop src offset w all indices index-data index-validity out₀ count whole k₀ out k =
     (k ≤ whole)
-    × (out ≡ overwrite (packBytes k (λ p. ltb p count && takenBit src offset (record { indices = indices; values = index-data; validity = index-validity }) p)) out₀)
+    × (out ≡ overwrite (packBytes k (λ p. ltb p count && takenBit src offset (record { indices = indices; «data» = index-data; validity = index-validity }) p)) out₀)
     × (length out ≡ length out₀)
 
 abbrev μ-loop : tie.MeasureT-loop

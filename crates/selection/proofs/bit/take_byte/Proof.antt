@@ -13,7 +13,7 @@ use Rattle.selection.proofs.bit.take_byte.Tie as tie
 
 abbrev Inv-loop : tie.InvT-loop
 Inv-loop src offset w all indices index-data index-validity k n valid p byte₀ t₀ byte t =
-    (t ≤ n) × (byte ≡ bitsTo t (λ i. takenBit src offset (record { indices = indices; values = index-data; validity = index-validity }) (p + i)))
+    (t ≤ n) × (byte ≡ bitsTo t (λ i. takenBit src offset (record { indices = indices; «data» = index-data; validity = index-validity }) (p + i)))
 
 abbrev μ-loop : tie.MeasureT-loop
 μ-loop src offset w all indices index-data index-validity k n valid p byte₀ t₀ byte t = n - t

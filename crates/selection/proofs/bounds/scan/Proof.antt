@@ -17,7 +17,7 @@ use Rattle.selection.proofs.bounds.scan.Tie as tie
 
 abbrev Inv-loop : tie.InvT-loop
 Inv-loop rows w indices index-data index-validity count found₀ j₀ found j =
-    (j ≤ count) × (found ≡ Fit) × ((k : ℕ) → k < j → outside rows (record { indices = indices; values = index-data; validity = index-validity }) k ≡ false)
+    (j ≤ count) × (found ≡ Fit) × ((k : ℕ) → k < j → outside rows (record { indices = indices; «data» = index-data; validity = index-validity }) k ≡ false)
 
 abbrev μ-loop : tie.MeasureT-loop
 μ-loop rows w indices index-data index-validity count found₀ j₀ found j = count - j

@@ -32,8 +32,8 @@ add-t14 c = omega (arith, ready-count _ _ (c .before .before .before .before .be
 enum-known-layout-2 : tie.Need-enum-known-layout-2
 enum-known-layout-2 c = search needs
 
-measure-runs-requires : tie.Need-measure-runs-requires
-measure-runs-requires c κs =
+measure-variable-requires : tie.Need-measure-variable-requires
+measure-variable-requires c κs =
     let l = c .before .before .before in
     let k = l .before in
     (k .before .before .before .before .before .before .pre, layout-told _ (k .kind-of .ensures) (l .layout-of .ensures) ∙ c .before .layout2 .given .1)
@@ -62,7 +62,7 @@ measure-spec =
     enum-told
     add-t14
     enum-known-layout-2
-    measure-runs-requires
+    measure-variable-requires
     returns
     returns-2
     returns-3)

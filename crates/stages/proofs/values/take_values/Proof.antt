@@ -1,7 +1,7 @@
--- `stages::values::take_values` meets its contract: each arm by the kind that led to it. Assumes nothing.
+-- `stages::«data»::take_values` meets its contract: each arm by the kind that led to it. Assumes nothing.
 use mathlib.Core.Bool.{true, false}
 use borrow.Author.Needs.{needs}
-use Rattle.stages.proofs.Routines.{kind-told, layout-by, under-null-by, known, blocked, blocks-stored, blocks-keep, data-reached, bits-room, bits-stored, bits-keep, runs-stored}
+use Rattle.stages.proofs.Routines.{kind-told, layout-by, under-null-by, known, blocked, blocks-stored, blocks-keep, data-reached, bits-room, bits-stored, bits-keep, variable-stored}
 use Rattle.stages.proofs.values.take_values.Statement.{statement}
 use Rattle.stages.proofs.values.take_values.Tie as tie
 
@@ -101,7 +101,7 @@ returns-3 c =
     let k = c .before .before .before .before .before .before .before .before .before in
     let p = k .before .before .before .before .before .before .before .before .before .pre in
     let e = layout-by _ (kind-told _ (k .kind-of .ensures) (c .before .before .before .before .before .before .before .enum-told3 .given .1)) in
-    (runs-stored _ _ (p .0) _ _ e (t .0), t .1)
+    (variable-stored _ _ (p .0) _ _ e (t .0), t .1)
 
 same-length-5 : tie.Need-same-length-5
 same-length-5 c = search needs
@@ -115,7 +115,7 @@ returns-4 c =
     let k = c .before .before .before .before .before .before .before .before .before in
     let p = k .before .before .before .before .before .before .before .before .before .pre in
     let e = layout-by _ (kind-told _ (k .kind-of .ensures) (c .before .before .before .before .before .before .before .enum-told4 .given .1)) in
-    (runs-stored _ _ (p .0) _ _ e (t .0), t .1)
+    (variable-stored _ _ (p .0) _ _ e (t .0), t .1)
 
 same-length-7 : tie.Need-same-length-7
 same-length-7 c = search needs
