@@ -1,8 +1,10 @@
 // Refusals 1 to 4, in their order: of a column with an index column, and of a column by itself. Any numbers and any buffers may be handed in.
-use crate::sizes::check_sizes;
 use offsets::check::check_offsets;
+use sizes::check::check_sizes;
 use tables::refusal::Checked;
+use tables::table::IndexLengths;
 use tables::table::Indices;
+use tables::table::Lengths;
 use tables::table::Table;
 ghost use mathlib.Core.Path.{_≡_};
 ghost use Rattle.tables.specs.Columns.{columnAt, indexColumnAt};
@@ -20,15 +22,16 @@ pub fn check_columns(
 ) -> Checked
     ensures { λ r. ⌜ checkedNumbers r ≡ formRefusal (columnAt table («data» .entry) (offsets .entry) (validity .entry)) (indexColumnAt indices («index_data» .entry) («index_validity» .entry)) ⌝ }
 {
-    let sizes = check_sizes(
-        table,
-        data,
-        offsets,
-        validity,
-        indices,
-        index_data,
-        index_validity,
-    );
+    let lengths = Lengths {
+        data: data.len() as u64,
+        offsets: offsets.len() as u64,
+        validity: validity.len() as u64,
+    };
+    let index_lengths = IndexLengths {
+        data: index_data.len() as u64,
+        validity: index_validity.len() as u64,
+    };
+    let sizes = check_sizes(table, lengths, indices, index_lengths);
     let Checked::Fit = sizes else {
         return sizes;
     };

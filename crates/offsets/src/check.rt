@@ -1,19 +1,20 @@
 // Refusal 4: the offsets of a column of variable width. One pass, eight offsets a turn, finds whether some offset is below the one before. Where none
 // is and the last is at most H, all are good: an offset below 0 is, read as unsigned, above every H. Only else is the place looked for.
 use bits::number::number_at;
+use kinds::kind::kind_of;
+use kinds::kind::layout_of;
 use tables::refusal::Checked;
 use tables::refusal::Refusal;
 use tables::table::Layout;
 use tables::table::Table;
-use tables::table::kind_of;
-use tables::table::layout_of;
 ghost use mathlib.Core.Path.{_≡_};
 ghost use Prim.Native.Nat.{suc, _+_, _≤_};
 ghost use Rattle.bits.specs.Sequences.{any, first};
 ghost use Rattle.bits.specs.Numbers.{numberAt};
 ghost use Rattle.tables.specs.Columns.{columnAt};
 ghost use Rattle.tables.specs.Answers.{checkedNumbers};
-ghost use Rattle.tables.specs.Refusals.{maxBytes, isBad, offsetsRefusal};
+ghost use Rattle.tables.specs.Refusals.{maxBytes, isBad};
+ghost use Rattle.tables.specs.Stages.{offsetsRefusal};
 ghost use Rattle.tables.specs.Bounds.{Offsets, Sized, falls};
 
 // Some of the eight offsets after offset i is below the one before.

@@ -1,9 +1,9 @@
 // The size of the data output of every kind, with refusal 6. Only columns of variable width have a running total that can pass their offsets.
+use kinds::kind::kind_of;
+use kinds::kind::layout_of;
 use tables::table::Indices;
 use tables::table::Layout;
 use tables::table::Table;
-use tables::table::kind_of;
-use tables::table::layout_of;
 use variable::total::Measured;
 use variable::total::measure_variable;
 ghost use mathlib.Core.Path.{_≡_};

@@ -1,10 +1,10 @@
 // Refusal 7: the bytes that each output needs, against the bytes that are lent.
+use kinds::kind::kind_of;
+use kinds::kind::layout_of;
 use tables::refusal::Checked;
 use tables::refusal::Refusal;
 use tables::table::Layout;
 use tables::table::Table;
-use tables::table::kind_of;
-use tables::table::layout_of;
 ghost use mathlib.Core.Path.{_≡_};
 ghost use Prim.Native.Nat.{_≤_};
 ghost use Rattle.tables.specs.Kinds.{kindOf, layoutOf};

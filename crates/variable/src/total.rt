@@ -1,11 +1,11 @@
 // The size of the data output, with refusal 6: the running total of the entries may pass no offset of 4 bytes. Offsets of 8 bytes hold every
 // total. All lengths are first added up without a branch; only where the sum passes the largest offset is the row looked for.
 use crate::row::masked_entries;
+use kinds::kind::kind_of;
 use tables::refusal::Refusal;
 use tables::table::Indices;
 use tables::table::Kind;
 use tables::table::Table;
-use tables::table::kind_of;
 ghost use mathlib.Core.Path.{_≡_};
 ghost use Rattle.bits.specs.Sequences.{sum};
 ghost use Rattle.tables.specs.declared.table.Layout.the-variants.{VariableWidth};

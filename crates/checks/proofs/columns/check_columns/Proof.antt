@@ -1,5 +1,6 @@
 -- `checks::columns::check_columns` meets its contract: the answer of the two stages is that of the first that refuses. Assumes nothing.
 use borrow.Author.Needs.{needs}
+use Rattle.tables.specs.Columns.{IndexColumn}
 use Rattle.tables.proofs.Stages.{fit-sized, stage-refused, stage-passed}
 use Rattle.checks.proofs.columns.check_columns.Statement.{statement}
 use Rattle.checks.proofs.columns.check_columns.Tie as tie
@@ -17,7 +18,10 @@ returns : tie.Need-returns
 returns c = stage-refused _ _ (c .before .before .check-sizes .ensures) (c .enum-told2 .given .1)
 
 check-offsets-requires : tie.Need-check-offsets-requires
-check-offsets-requires c κs = fit-sized _ _ (c .before .before .check-sizes .ensures) (c .enum-told .given .1)
+check-offsets-requires c κs =
+    let a = c .before .before .before .before .before .before .before .before .args in
+    let x : IndexColumn = record { indices = a .indices; «data» = a .index-data .now; validity = a .index-validity .now } in
+    fit-sized _ x (c .before .before .check-sizes .ensures) (c .enum-told .given .1)
 
 returns-2 : tie.Need-returns-2
 returns-2 c =
