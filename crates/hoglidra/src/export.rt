@@ -1,8 +1,8 @@
 // What the printer's C firmware calls: numbers and byte slices, each slice a pointer and a length. The number is returned, and the four numbers are
 // written into the lent answer, refusals included; an answer slice of fewer than 32 bytes gets 7 before every other test, and nothing is written.
-use crate::answer::answered_numbers;
-use crate::take::take;
 use bits::number::write_u64;
+use entries::answer::answered_numbers;
+use entries::take::take;
 use tables::refusal::Answer;
 use tables::table::Indices;
 use tables::table::Table;
@@ -10,12 +10,9 @@ ghost use mathlib.Core.Path.{_≡_};
 ghost use Prim.Native.Nat.{_≤_};
 ghost use lib.ListN.{length};
 ghost use Rattle.bits.specs.Bytes.{overwrite};
-ghost use Rattle.tables.specs.Columns.{columnAt, indexColumnAt};
-ghost use Rattle.tables.specs.Refusals.{WellFormed};
-ghost use Rattle.gathers.specs.Gather.{gather};
-ghost use Rattle.gathers.specs.Blank.{blank};
-ghost use Rattle.hoglidra.specs.Answered.{answerBytes};
-ghost use Rattle.hoglidra.specs.Entry.{outputAt, tableOf, indicesOf, exported};
+ghost use Rattle.tables.specs.Columns.{columnAt, indexColumnAt, description, indexDescription};
+ghost use Rattle.entries.specs.Entry.{outputAt, Gathers};
+ghost use Rattle.hoglidra.specs.Exported.{answerBytes, left, exported};
 
 // Writes the four numbers, eight bytes each, over the first 32 bytes.
 fn write_answer(answer: Answer, out: &mut [u8])
@@ -50,25 +47,11 @@ pub extern "C" fn hoglidra_take(
     out_data: &mut [u8],
     answer: &mut [u8],
 ) -> u64
-    ensures right { λ r. ⌜ record { number = r; answer = now (answer .exit); output = outputAt («out_validity» .exit) («out_offsets» .exit) («out_data» .exit) }
-        ≡ exported
-        (gather
-        (columnAt (tableOf kind width size «offset_width» rows «data_bit» «validity_bit») («data» .entry) (offsets .entry) (validity .entry))
-        (indexColumnAt (indicesOf «index_width» count «index_validity_bit») («index_data» .entry) («index_validity» .entry))
-        (outputAt («out_validity» .entry) («out_offsets» .entry) («out_data» .entry)))
+    ensures { λ r. ⌜ Gathers (exported (now (answer .entry)))
+        (columnAt (description kind width size «offset_width» rows «data_bit» «validity_bit») («data» .entry) (offsets .entry) (validity .entry))
+        (indexColumnAt (indexDescription «index_width» count «index_validity_bit») («index_data» .entry) («index_validity» .entry))
         (outputAt («out_validity» .entry) («out_offsets» .entry) («out_data» .entry))
-        (now (answer .entry)) ⌝ }
-    ensures private { λ r. ⌜ (WellFormed (columnAt (tableOf kind width size «offset_width» rows «data_bit» «validity_bit») («data» .entry) (offsets .entry) (validity .entry))
-        → record { number = r; answer = now (answer .exit); output = outputAt («out_validity» .exit) («out_offsets» .exit) («out_data» .exit) }
-        ≡ exported
-        (gather
-        (blank
-        (columnAt (tableOf kind width size «offset_width» rows «data_bit» «validity_bit») («data» .entry) (offsets .entry) (validity .entry))
-        (indexColumnAt (indicesOf «index_width» count «index_validity_bit») («index_data» .entry) («index_validity» .entry)))
-        (indexColumnAt (indicesOf «index_width» count «index_validity_bit») («index_data» .entry) («index_validity» .entry))
-        (outputAt («out_validity» .entry) («out_offsets» .entry) («out_data» .entry)))
-        (outputAt («out_validity» .entry) («out_offsets» .entry) («out_data» .entry))
-        (now (answer .entry))) ⌝ }
+        (left r (now (answer .exit)) (outputAt («out_validity» .exit) («out_offsets» .exit) («out_data» .exit))) ⌝ }
 {
     if answer.len() < 32 {
         return 7;

@@ -4,7 +4,7 @@ use Prim.Native.Nat.{ℕ}
 use Rattle.tables.specs.declared.table.Layout.{Layout}
 use Rattle.tables.specs.declared.table.Layout.the-variants.{FixedWidth, BitMap, VariableWidth}
 use Rattle.tables.specs.declared.refusal.Answer.{Answer}
-use Rattle.stages.specs.declared.space.Lengths.{Lengths}
+use Rattle.tables.specs.declared.table.Lengths.{Lengths}
 use Rattle.tables.specs.Kinds.{kindOf, layoutOf, copiesUnderNull}
 use Rattle.tables.specs.Columns.{Column, IndexColumn, kindAt, layoutAt}
 use Rattle.tables.specs.Refusals.{WellFormed}

@@ -9,7 +9,7 @@ use Rattle.tables.specs.declared.table.Layout.the-variants.{FixedWidth, BitMap,
 use Rattle.tables.specs.Answers.{firstOf}
 use Rattle.gathers.specs.Stored.{Output}
 use Rattle.gathers.specs.Gather.{spaceLine}
-use Rattle.stages.specs.declared.space.Lengths.{Lengths}
+use Rattle.tables.specs.declared.table.Lengths.{Lengths}
 
 -- the offsets of count rows, of w bytes each
 abbrev pub offsetBytesFor : Layout → ℕ → ℕ → ℕ

@@ -1,6 +1,7 @@
 // The size of the data output of every kind, with refusal 6. Only columns of variable width have a running total that can pass their offsets.
 use kinds::kind::kind_of;
 use kinds::kind::layout_of;
+use tables::refusal::Checked;
 use tables::table::Indices;
 use tables::table::Layout;
 use tables::table::Table;
@@ -29,8 +30,14 @@ pub fn measure(
     let kind = kind_of(table.kind);
     let layout = layout_of(kind, table);
     match layout {
-        Layout::FixedWidth(n) => Measured::Bytes(indices.count * n),
-        Layout::BitMap => Measured::Bytes((indices.count + 7) / 8),
+        Layout::FixedWidth(n) => Measured {
+            checked: Checked::Fit,
+            total: indices.count * n,
+        },
+        Layout::BitMap => Measured {
+            checked: Checked::Fit,
+            total: (indices.count + 7) / 8,
+        },
         Layout::VariableWidth(unit) => measure_variable(
             table,
             data,

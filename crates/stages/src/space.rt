@@ -4,6 +4,7 @@ use kinds::kind::layout_of;
 use tables::refusal::Checked;
 use tables::refusal::Refusal;
 use tables::table::Layout;
+use tables::table::Lengths;
 use tables::table::Table;
 ghost use mathlib.Core.Path.{_≡_};
 ghost use Prim.Native.Nat.{_≤_};
@@ -12,13 +13,6 @@ ghost use Rattle.tables.specs.Answers.{checkedNumbers};
 ghost use Rattle.tables.specs.Refusals.{maxRows};
 ghost use Rattle.tables.specs.Bounds.{RowFits, Bounds};
 ghost use Rattle.stages.specs.Space.{offsetBytesFor, lengthsFor, lengthsRefusal};
-
-// The bytes of the three outputs.
-pub struct Lengths {
-    pub validity: u64,
-    pub offsets: u64,
-    pub data: u64,
-}
 
 fn offset_length(layout: Layout, table: Table, count: u64) -> u64
     requires { ⌜ Bounds layout table ⌝ }

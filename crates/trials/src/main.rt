@@ -1,12 +1,12 @@
 // Runs what is too long for a line of text: the paper's trial 10, which overflows, and trial 11, on byte buffers; refusal 7 at each place; and the row
 // reader. Writes a line for each, which says what was answered, and whether the outputs were kept.
 use bits::number::wide;
-use hoglidra::answer::Answered;
-use hoglidra::answer::answered_numbers;
-use hoglidra::row::has_row;
-use hoglidra::row::read_row;
-use hoglidra::take::take;
+use entries::answer::Answered;
+use entries::answer::answered_numbers;
+use entries::take::take;
 use libc::STDOUT_FILENO;
+use reader::row::has_row;
+use reader::row::read_row;
 use tables::table::Indices;
 use tables::table::Table;
 

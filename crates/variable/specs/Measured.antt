@@ -5,6 +5,8 @@ use mathlib.Core.Bool.{cond}
 use lib.Dec.{eqb}
 use Rattle.bits.specs.Sequences.{sum}
 use Rattle.tables.specs.declared.refusal.Answer.{Answer}
+use Rattle.tables.specs.declared.refusal.Checked.{Checked}
+use Rattle.tables.specs.declared.refusal.Checked.the-variants.{Fit, Unfit}
 use Rattle.tables.specs.Answers.{refusalNumbers}
 use Rattle.tables.specs.Columns.{Column, IndexColumn, layoutAt}
 use Rattle.tables.specs.Rows.{rowsOf}
@@ -12,13 +14,15 @@ use Rattle.gathers.specs.Taken.{takeRows}
 use Rattle.gathers.specs.Gather.{overflowAt}
 use Rattle.gathers.specs.Buffers.{takenEntries}
 use Rattle.variable.specs.declared.total.Measured.{Measured}
-use Rattle.variable.specs.declared.total.Measured.the-variants.{Bytes, Unfit}
 use Rattle.variable.specs.declared.total.Counted.{Counted}
 
 -- the data bytes that the rows need, as total; or the refusal
+abbrev pub measuredBy : Checked → ℕ → Answer
+measuredBy Fit n = record { number = 0; place = 0; total = n; nulls = 0 }
+measuredBy (Unfit r) n = refusalNumbers r
+
 abbrev pub measuredNumbers : Measured → Answer
-measuredNumbers (Bytes n) = record { number = 0; place = 0; total = n; nulls = 0 }
-measuredNumbers (Unfit r) = refusalNumbers r
+measuredNumbers m = measuredBy (m .checked) (m .total)
 
 -- what no offset of w bytes is above: of 8 bytes, the largest number of 64 bits, which no total reaches
 abbrev pub largestOffset : ℕ → ℕ

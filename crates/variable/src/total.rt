@@ -2,6 +2,7 @@
 // total. All lengths are first added up without a branch; only where the sum passes the largest offset is the row looked for.
 use crate::row::masked_entries;
 use kinds::kind::kind_of;
+use tables::refusal::Checked;
 use tables::refusal::Refusal;
 use tables::table::Indices;
 use tables::table::Kind;
@@ -18,10 +19,10 @@ ghost use Rattle.gathers.specs.Ready.{Ready};
 ghost use Rattle.variable.specs.Taken.{VariableReady};
 ghost use Rattle.variable.specs.Measured.{measuredNumbers, largestOffset, CountedAll};
 
-// How many bytes the rows need, or why they cannot be gathered.
-pub enum Measured {
-    Bytes(u64),
-    Unfit(Refusal),
+// Whether refusal 6 is met, and where it is not how many data bytes the rows need.
+pub struct Measured {
+    pub checked: Checked,
+    pub total: u64,
 }
 
 // An output row, or their count, and the running total before and after it, in entries.
@@ -230,7 +231,10 @@ pub fn measure_variable(
         index_validity,
     );
     if sum <= largest_offset(table.offset_width) {
-        return Measured::Bytes(sum * unit);
+        return Measured {
+            checked: Checked::Fit,
+            total: sum * unit,
+        };
     }
     let counted = count_entries(
         table,
@@ -243,5 +247,8 @@ pub fn measure_variable(
     );
     let place = counted.place;
     let total = overflow_total(kind_of(table.kind), counted.after, counted.before);
-    Measured::Unfit(Refusal::Overflow { place, total })
+    Measured {
+        checked: Checked::Unfit(Refusal::Overflow { place, total }),
+        total: 0,
+    }
 }

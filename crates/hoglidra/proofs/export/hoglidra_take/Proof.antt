@@ -5,7 +5,7 @@ use Rattle.hoglidra.proofs.export.hoglidra_take.Statement.{statement}
 use Rattle.hoglidra.proofs.export.hoglidra_take.Tie as tie
 
 returns : tie.Need-returns
-returns c = (short-answer _ _ _ (c .if1 .taken), λ w. short-answer _ _ _ (c .if1 .taken))
+returns c = short-answer _ _ _ _ (c .if1 .taken)
 
 take-requires : tie.Need-take-requires
 take-requires c κs = search needs
@@ -34,7 +34,7 @@ returns-2 c =
     let g = c .before .before .before .before .before .before .before .before .before .before .before .take .ensures in
     let n = c .before .before .before .before .answered-numbers .ensures in
     let b = c .before .before .write-answer .ensures in
-    (long-answer _ _ _ h (g .0) n b, λ w. long-answer _ _ _ h (g .1 w) n b)
+    long-answer _ _ _ _ h g n b
 
 pub hoglidra-take-spec : {M : Type 1} → statement M
 hoglidra-take-spec =

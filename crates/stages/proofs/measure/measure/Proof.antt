@@ -17,8 +17,8 @@ layout-of-requires c κs = ready-row-fits _ _ (c .before .before .before .before
 enum-known-layout : tie.Need-enum-known-layout
 enum-known-layout c = search needs
 
-mul-t13 : tie.Need-mul-t13
-mul-t13 c =
+mul-t14 : tie.Need-mul-t14
+mul-t14 c =
     let l = c .before .before .before .before in
     let k = l .before in
     omega (arith, ready-bytes _ _ (k .before .before .before .before .before .before .pre) _ (layout-told _ (k .kind-of .ensures) (l .layout-of .ensures) ∙ c .before .before .layout .given .1))
@@ -26,8 +26,8 @@ mul-t13 c =
 enum-told : tie.Need-enum-told
 enum-told c = search needs
 
-add-t14 : tie.Need-add-t14
-add-t14 c = omega (arith, ready-count _ _ (c .before .before .before .before .before .before .before .before .before .before .pre))
+add-t16 : tie.Need-add-t16
+add-t16 c = omega (arith, ready-count _ _ (c .before .before .before .before .before .before .before .before .before .before .pre))
 
 enum-known-layout-2 : tie.Need-enum-known-layout-2
 enum-known-layout-2 c = search needs
@@ -58,9 +58,9 @@ measure-spec =
     kind-of-requires
     layout-of-requires
     enum-known-layout
-    mul-t13
+    mul-t14
     enum-told
-    add-t14
+    add-t16
     enum-known-layout-2
     measure-variable-requires
     returns

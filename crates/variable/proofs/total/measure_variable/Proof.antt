@@ -10,8 +10,8 @@ sum-entries-requires c κs = let f = c .before .before .before .before .before i
 largest-offset-requires : tie.Need-largest-offset-requires
 largest-offset-requires c κs = search needs
 
-mul-t15 : tie.Need-mul-t15
-mul-t15 c =
+mul-t16 : tie.Need-mul-t16
+mul-t16 c =
     let s = c .before .before in
     let f = s .before .before .before .before .before .before in
     record { fits = bytes-fit (f .pre .0) (f .pre .1) (s .sum-entries .ensures) }
@@ -47,7 +47,7 @@ measure-variable-spec =
     (tie.spec
     sum-entries-requires
     largest-offset-requires
-    mul-t15
+    mul-t16
     returns
     count-entries-requires
     kind-of-requires

@@ -1,0 +1,74 @@
+// The gather of a column by an index column, Rust's `take` with `check_bounds`: refused with the first of the paper's numbers that is met, and
+// then no output byte changes; or gathered. Any numbers, any buffers and any lent outputs may be handed in.
+use crate::answer::Answered;
+use crate::check::check;
+use selection::null::take_nulls;
+use stages::values::take_values;
+use tables::refusal::Checked;
+use tables::table::Indices;
+use tables::table::Table;
+ghost use Rattle.tables.specs.Columns.{columnAt, indexColumnAt};
+ghost use Rattle.gathers.specs.Gather.{gather};
+ghost use Rattle.entries.specs.Answered.{answeredNumbers};
+ghost use Rattle.entries.specs.Entry.{outcome, outputAt, Gathers};
+
+pub fn take(
+    table: Table,
+    data: &[u8],
+    offsets: &[u8],
+    validity: &[u8],
+    indices: Indices,
+    index_data: &[u8],
+    index_validity: &[u8],
+    out_validity: &mut [u8],
+    out_offsets: &mut [u8],
+    out_data: &mut [u8],
+) -> Answered
+    ensures { λ r. ⌜ Gathers gather
+        (columnAt table («data» .entry) (offsets .entry) (validity .entry))
+        (indexColumnAt indices («index_data» .entry) («index_validity» .entry))
+        (outputAt («out_validity» .entry) («out_offsets» .entry) («out_data» .entry))
+        (outcome (answeredNumbers r) (outputAt («out_validity» .exit) («out_offsets» .exit) («out_data» .exit))) ⌝ }
+{
+    let tested = check(
+        table,
+        data,
+        offsets,
+        validity,
+        indices,
+        index_data,
+        index_validity,
+        out_validity,
+        out_offsets,
+        out_data,
+    );
+    let checked = tested.checked;
+    let Checked::Unfit(refusal) = checked else {
+        let nulls = take_nulls(
+            validity,
+            table.validity_bit as usize,
+            indices,
+            index_data,
+            index_validity,
+            out_validity,
+        );
+        take_values(
+            table,
+            data,
+            offsets,
+            validity,
+            indices,
+            index_data,
+            index_validity,
+            tested.outside,
+            out_validity,
+            out_offsets,
+            out_data,
+        );
+        return Answered::Gathered {
+            total: tested.total,
+            nulls,
+        };
+    };
+    Answered::Refused(refusal)
+}
