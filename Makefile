@@ -14,7 +14,8 @@ test-archive: $(archive)
 	nm -u $(archive) > target/undefined
 	! grep '^ ' target/undefined
 
-# Trials, published examples and published answers through the archive, the README's example, and the stack that a call uses.
+# Trials, published examples, published answers and made cases through the archive, also with no byte there that is not needed; the README's example, and the
+# stack that a call uses.
 test-c: target/cases target/readme target/stack
 	valgrind --quiet --error-exitcode=1 --leak-check=full target/cases crates/vectors/data/*.txt
 	target/readme
