@@ -26,7 +26,7 @@ test-demo: target/ingredients
 	valgrind --quiet --error-exitcode=1 --leak-check=full target/ingredients > target/ingredients.stdout
 	diff examples/ingredients.stdout target/ingredients.stdout
 
-# The archive against a model that was written without sight of the Rattle, and the examples of the Rust documentation.
+# The archive against a model that was written without sight of the Rattle, against the loops of take.rs, and the examples of the Rust documentation.
 test-rust: $(archive)
 	cd rust && RUSTFLAGS='-D warnings' cargo test --offline
 
