@@ -9,10 +9,12 @@ demo: target/ingredients
 
 test: test-archive test-c test-demo test-rust
 
-# The archive calls nothing that it does not hold: no heap, no C library.
+# The archive calls nothing that it does not hold: no heap, no C library. It has no variables: calls may run at once.
 test-archive: $(archive)
 	nm -u $(archive) > target/undefined
 	! grep '^ ' target/undefined
+	nm $(archive) > target/symbols
+	! grep -i ' [bcdgs] ' target/symbols
 
 # Trials, published examples, published answers and made cases through the archive, also with no byte there that is not needed; the README's example, and the
 # stack that a call uses.
