@@ -9,12 +9,15 @@ demo: target/ingredients
 
 test: test-archive test-c test-demo test-rust
 
-# The archive calls nothing that it does not hold: no heap, no C library.
+# The archive calls nothing that it does not hold: no heap, no C library. It has no variables: calls may run at once.
 test-archive: $(archive)
 	nm -u $(archive) > target/undefined
 	! grep '^ ' target/undefined
+	nm $(archive) > target/symbols
+	! grep -i ' [bcdgs] ' target/symbols
 
-# Trials, published examples and published answers through the archive, the README's example, and the stack that a call uses.
+# Trials, published examples, published answers and made cases through the archive, also with no byte there that is not needed; the README's example, and the
+# stack that a call uses.
 test-c: target/cases target/readme target/stack
 	valgrind --quiet --error-exitcode=1 --leak-check=full target/cases crates/vectors/data/*.txt
 	target/readme
@@ -25,7 +28,7 @@ test-demo: target/ingredients
 	valgrind --quiet --error-exitcode=1 --leak-check=full target/ingredients > target/ingredients.stdout
 	diff examples/ingredients.stdout target/ingredients.stdout
 
-# The archive against a model that was written without sight of the Rattle, and the examples of the Rust documentation.
+# The archive against a model that was written without sight of the Rattle, against the loops of take.rs, and the examples of the Rust documentation.
 test-rust: $(archive)
 	cd rust && RUSTFLAGS='-D warnings' cargo test --offline
 

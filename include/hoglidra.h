@@ -40,17 +40,31 @@ struct hoglidra_answer {
 
 /* Gathers. Column: rows of a kind, with the fields that the kind names above; a field or buffer that the kind does not use is ignored. width: 1, 2, 4, 8, 16
    or 32 bytes a value. offset_width: 4 or 8. data_bit and validity_bit: where the first bit stands in the first byte. A validity of length 0 means that
-   every row is valid. Index column: count row numbers, unsigned, index_width 1, 2, 4 or 8 bytes each, with a validity of its own.
+   every row is valid; its bit is then ignored. Index column: count row numbers, unsigned, index_width 1, 2, 4 or 8 bytes each, with a validity of its own.
+   Offsets and row numbers are little-endian. Negative numbers of a signed index column are large unsigned ones: in 4 and 8 bytes the numbers of no row, so a
+   valid one is refused with 5; in 1 and 2 bytes perhaps the number of a row.
    Limits: rows and count 1,048,576; size 65,536; bit offsets 7; each source or index buffer 16,777,216 bytes.
 
-   What is lent: out_validity needs (count + 7) / 8 bytes, and out_offsets (count + 1) * offset_width in kinds 3 and 4. out_data needs count rows, packed as
-   bits in kind 2; in kinds 3 and 4 a call with too little there answers HOGLIDRA_SPACE, and `total` says how much it is. Bytes past what is written are kept.
+   The bytes that each source and index buffer needs; it may have more:
+     data             kind 1: rows * width; 2: (data_bit + rows + 7) / 8; 5: rows * size * width; 6: rows * size;
+                      kind 3: up to the last offset; 4: up to the last offset * width (with fewer, the offset is refused with 4 and not with 3)
+     offsets          kinds 3 and 4: (rows + 1) * offset_width
+     validity         (validity_bit + rows + 7) / 8, if it is there
+     index_data       count * index_width
+     index_validity   (index_validity_bit + count + 7) / 8, if it is there
+
+   The bytes that each output needs; bytes past them are kept, and spare bits in the last byte of packed bits (validity, kind 2) become 0:
+     out_validity     (count + 7) / 8
+     out_offsets      kinds 3 and 4: (count + 1) * offset_width
+     out_data         kind 1: count * width; 2: (count + 7) / 8; 5: count * size * width; 6: count * size;
+                      kinds 3 and 4: the lengths of the valid rows that are taken; a call with less room answers HOGLIDRA_SPACE, and `total` says how much it is
 
    What lies under a null row of the output: nothing in kinds 3 and 4. In the others, the bytes or the bit of the null row that a valid index names. Under a null
    index, zeros; but in kind 1, and in kind 6 of size 1, 2, 4, 8 or 16, the bytes of the row whose number stands under it, if there is such a row.
 
    What the caller owes: each slice is a pointer and a length in bytes, and the pointer may be NULL only if the length is 0; the three outputs and the answer
    overlap nothing else. Nothing else is asked: every number, length and content is allowed, and what does not fit is refused before an output byte changes.
+   Calls may run at once on different outputs and answers, also over the same sources: there is no global state.
 
    The four numbers go over the first 32 bytes of the answer, 8 bytes each, little-endian; the number is also returned. An answer slice of fewer than 32 bytes
    gets 7, and nothing is written at all. The call uses less than 2,048 bytes of stack, no heap and no other library. */

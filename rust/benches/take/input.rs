@@ -175,7 +175,11 @@ impl Input {
         let [number, _, total, null_count] = self.ours().take();
         assert_eq!(number, 0, "{case}: ours is refused");
         let rust = self.rust();
-        let taken = rust.take().expect("the Rust side gathers");
+        let taken = rust.take().unwrap_or_else(|error| panic!("{case}: {error}"));
+        if let Kind::Bytes { .. } | Kind::List { .. } = case.layout.kind {
+            let size = reference::size(&rust.array, &rust.indices);
+            assert_eq!(size.ok(), Some(taken.data.bytes().len()), "{case}: size");
+        }
         let all_valid = || {
             let mut bits = vec![0xFF; case.count.div_ceil(8)];
             if case.count % 8 != 0 {

@@ -5,6 +5,11 @@
 //! arrays test them. Null counts come with the validity, and the null buffers of the indices are
 //! shared, as arrow does; the null buffer that arrow makes for the child of a fixed-size list has
 //! no counterpart in ours and is left out. All three favour the Rust side.
+//!
+//! `size` runs the loops of `take_bytes` and `take_list` without the copying, so that the tests
+//! (rust/tests/properties) can meet totals that no output could hold.
+
+use std::fmt;
 
 use hoglidra::Kind;
 
@@ -64,11 +69,20 @@ impl Buffer {
 }
 
 /// What arrow reports as `ArrowError`.
-#[derive(Debug)]
 pub enum Error {
     OutOfBounds,
-    OffsetOverflow,
+    OffsetOverflow(usize),
     Offsets,
+}
+
+impl fmt::Display for Error {
+    fn fmt(&self, f: &mut fmt::Formatter<'_>) -> fmt::Result {
+        match self {
+            Error::OutOfBounds => write!(f, "an index is out of bounds"),
+            Error::OffsetOverflow(total) => write!(f, "the offsets overflow: {total}"),
+            Error::Offsets => write!(f, "the offsets are not those of an array"),
+        }
+    }
 }
 
 /// `PrimitiveArray` of indices.
@@ -109,24 +123,46 @@ impl<'a, I: Index> Indices<'a, I> {
     }
 }
 
-/// `take` with `check_bounds`.
-pub fn take<'a>(array: &'a Array, indices: &'a IndexArray) -> Result<Taken<'a>, Error> {
-    match indices.width {
-        1 => take_by::<u8>(array, indices),
-        2 => take_by::<u16>(array, indices),
-        4 => take_by::<u32>(array, indices),
-        _ => take_by::<u64>(array, indices),
+impl<'a> IndexArray<'a> {
+    fn typed<I: Index + Native>(&'a self) -> Indices<'a, I> {
+        Indices { values: &typed::<I>(self.data)[..self.count], nulls: self.nulls.as_ref() }
     }
 }
 
-fn take_by<'a, I: Index + Native + 'a>(
-    array: &'a Array,
-    indices: &'a IndexArray,
-) -> Result<Taken<'a>, Error> {
-    let values = &typed::<I>(indices.data)[..indices.count];
-    let indices = Indices { values, nulls: indices.nulls.as_ref() };
-    check_bounds(array.rows, &indices)?;
-    take_impl(array, &indices)
+/// `take` with `check_bounds`.
+pub fn take<'a>(array: &'a Array, indices: &'a IndexArray) -> Result<Taken<'a>, Error> {
+    match indices.width {
+        1 => take_by(array, &indices.typed::<u8>()),
+        2 => take_by(array, &indices.typed::<u16>()),
+        4 => take_by(array, &indices.typed::<u32>()),
+        _ => take_by(array, &indices.typed::<u64>()),
+    }
+}
+
+fn take_by<'a, I: Index>(array: &'a Array, indices: &Indices<'a, I>) -> Result<Taken<'a>, Error> {
+    check_bounds(array.rows, indices)?;
+    take_impl(array, indices)
+}
+
+/// The data bytes of what `take` gives, where rows have lengths of their own: nothing is copied.
+pub fn size(array: &Array, indices: &IndexArray) -> Result<usize, Error> {
+    match indices.width {
+        1 => size_by(array, &indices.typed::<u8>()),
+        2 => size_by(array, &indices.typed::<u16>()),
+        4 => size_by(array, &indices.typed::<u32>()),
+        _ => size_by(array, &indices.typed::<u64>()),
+    }
+}
+
+fn size_by<I: Index>(array: &Array, indices: &Indices<I>) -> Result<usize, Error> {
+    check_bounds(array.rows, indices)?;
+    match array.kind {
+        Kind::Bytes { offset_width: 4 } => size_bytes::<i32, I>(array, indices),
+        Kind::Bytes { .. } => size_bytes::<i64, I>(array, indices),
+        Kind::List { width, offset_width: 4 } => size_list::<i32, I>(array, width, indices),
+        Kind::List { width, .. } => size_list::<i64, I>(array, width, indices),
+        _ => unimplemented!("rows of this kind have one length"),
+    }
 }
 
 /// Verifies that the non-null values of `indices` are all `< len`
@@ -386,6 +422,81 @@ fn checked_offsets<O: Offset + Native>(
     Ok(offsets)
 }
 
+/// The first loop of `take_bytes` where every output slot is valid: the offsets, and how many bytes
+/// the rows have.
+#[inline(always)]
+fn offsets_of_all<O: Offset, I: Index>(
+    input_offsets: &[O],
+    indices: &Indices<I>,
+    offsets: &mut Vec<O>,
+) -> Result<usize, Error> {
+    let mut capacity = 0;
+    for index in indices.values {
+        let index = index.as_usize();
+        let start = input_offsets[index].as_usize();
+        let end = input_offsets[index + 1].as_usize();
+        capacity += end - start;
+        offsets.push(O::from_usize(capacity).ok_or(Error::OffsetOverflow(capacity))?);
+    }
+    Ok(capacity)
+}
+
+/// The same where some output slots are null, and which ranges the valid ones are copied from.
+#[inline(always)]
+fn offsets_of_valid<O: Offset, I: Index>(
+    input_offsets: &[O],
+    indices: &Indices<I>,
+    output_nulls: &Nulls,
+    offsets: &mut Vec<O>,
+    source_ranges: &mut Vec<(usize, usize)>,
+) -> Result<usize, Error> {
+    let mut capacity = 0;
+    let mut last_filled = 0;
+
+    // Pre-fill offsets; we overwrite valid positions below.
+    offsets.resize(indices.len() + 1, O::default());
+
+    // Pass 1: find all valid ranges that need to be copied.
+    for i in output_nulls.valid_indices() {
+        let current_offset = O::from_usize(capacity).ok_or(Error::OffsetOverflow(capacity))?;
+        // Fill offsets for skipped null slots so they get zero-length ranges.
+        if last_filled < i {
+            offsets[last_filled + 1..=i].fill(current_offset);
+        }
+
+        // SAFETY: `i` comes from a validity bitmap over `indices`, so it is in-bounds.
+        let index = unsafe { indices.value_unchecked(i) }.as_usize();
+        let start = input_offsets[index].as_usize();
+        let end = input_offsets[index + 1].as_usize();
+        capacity += end - start;
+        offsets[i + 1] = O::from_usize(capacity).ok_or(Error::OffsetOverflow(capacity))?;
+
+        source_ranges.push((start, end));
+        last_filled = i + 1;
+    }
+
+    // Fill trailing null offsets after the last valid position.
+    let final_offset = O::from_usize(capacity).ok_or(Error::OffsetOverflow(capacity))?;
+    offsets[last_filled + 1..].fill(final_offset);
+    Ok(capacity)
+}
+
+/// The loops of `take_bytes` before it copies.
+fn size_bytes<O: Offset + Native, I: Index>(
+    array: &Array,
+    indices: &Indices<I>,
+) -> Result<usize, Error> {
+    let input_offsets = checked_offsets::<O>(array.offsets, array.rows, array.data.len())?;
+    let mut offsets = vec![O::default()];
+    let nulls = take_nulls(array.nulls.as_ref(), indices);
+    match nulls.as_ref().filter(|n| n.null_count > 0) {
+        None => offsets_of_all(input_offsets, indices, &mut offsets),
+        Some(output_nulls) => {
+            offsets_of_valid(input_offsets, indices, output_nulls, &mut offsets, &mut Vec::new())
+        }
+    }
+}
+
 /// `take` implementation for string arrays
 fn take_bytes<'a, O: Offset + Native, I: Index>(
     array: &'a Array,
@@ -397,20 +508,13 @@ fn take_bytes<'a, O: Offset + Native, I: Index>(
     let mut offsets = Vec::with_capacity(indices.len() + 1);
     offsets.push(O::default());
 
-    let mut capacity = 0;
     let nulls = take_nulls(array.nulls.as_ref(), indices);
 
     // Branch on output nulls — `None` means every output slot is valid.
     match nulls.as_ref().filter(|n| n.null_count > 0) {
         // Fast path: no nulls in output, every index is valid.
         None => {
-            for index in indices.values {
-                let index = index.as_usize();
-                let start = input_offsets[index].as_usize();
-                let end = input_offsets[index + 1].as_usize();
-                capacity += end - start;
-                offsets.push(O::from_usize(capacity).ok_or(Error::OffsetOverflow)?);
-            }
+            let capacity = offsets_of_all(input_offsets, indices, &mut offsets)?;
 
             values.reserve(capacity);
 
@@ -443,33 +547,14 @@ fn take_bytes<'a, O: Offset + Native, I: Index>(
         // Nullable path: only process valid (non-null) output positions.
         Some(output_nulls) => {
             let mut source_ranges = Vec::with_capacity(indices.len() - output_nulls.null_count);
-            let mut last_filled = 0;
+            let capacity = offsets_of_valid(
+                input_offsets,
+                indices,
+                output_nulls,
+                &mut offsets,
+                &mut source_ranges,
+            )?;
 
-            // Pre-fill offsets; we overwrite valid positions below.
-            offsets.resize(indices.len() + 1, O::default());
-
-            // Pass 1: find all valid ranges that need to be copied.
-            for i in output_nulls.valid_indices() {
-                let current_offset = O::from_usize(capacity).ok_or(Error::OffsetOverflow)?;
-                // Fill offsets for skipped null slots so they get zero-length ranges.
-                if last_filled < i {
-                    offsets[last_filled + 1..=i].fill(current_offset);
-                }
-
-                // SAFETY: `i` comes from a validity bitmap over `indices`, so it is in-bounds.
-                let index = unsafe { indices.value_unchecked(i) }.as_usize();
-                let start = input_offsets[index].as_usize();
-                let end = input_offsets[index + 1].as_usize();
-                capacity += end - start;
-                offsets[i + 1] = O::from_usize(capacity).ok_or(Error::OffsetOverflow)?;
-
-                source_ranges.push((start, end));
-                last_filled = i + 1;
-            }
-
-            // Fill trailing null offsets after the last valid position.
-            let final_offset = O::from_usize(capacity).ok_or(Error::OffsetOverflow)?;
-            offsets[last_filled + 1..].fill(final_offset);
             // Pass 2: copy byte data for all collected ranges.
             values.reserve(capacity);
 
@@ -536,7 +621,7 @@ fn take_list<'a, O: Offset + Native, I: Index>(
                 dst_buf.extend_from_slice(&values_buf[start..end]);
                 child_len = child_len
                     .checked_add(src_offsets[row + 1].minus(src_offsets[row]))
-                    .ok_or(Error::OffsetOverflow)?;
+                    .ok_or_else(|| Error::OffsetOverflow(child_len.as_usize()))?;
                 dst_offsets.push(child_len);
             }
         }
@@ -554,7 +639,7 @@ fn take_list<'a, O: Offset + Native, I: Index>(
                 dst_buf.extend_from_slice(&values_buf[start..end]);
                 child_len = child_len
                     .checked_add(src_offsets[row + 1].minus(src_offsets[row]))
-                    .ok_or(Error::OffsetOverflow)?;
+                    .ok_or_else(|| Error::OffsetOverflow(child_len.as_usize()))?;
                 dst_offsets.push(child_len);
                 prev = vidx + 1;
             }
@@ -563,6 +648,42 @@ fn take_list<'a, O: Offset + Native, I: Index>(
     }
 
     Ok(Taken { nulls, offsets: buffer(dst_offsets), data: Buffer::U8(dst_buf) })
+}
+
+/// The loops of `take_list` without their copying and without the offsets that they push: to take
+/// both from one text would change what is timed.
+fn size_list<O: Offset + Native, I: Index>(
+    array: &Array,
+    bytes_per_value: usize,
+    indices: &Indices<I>,
+) -> Result<usize, Error> {
+    let most = array.data.len() / bytes_per_value;
+    let src_offsets = checked_offsets::<O>(array.offsets, array.rows, most)?;
+    let nulls = take_nulls(array.nulls.as_ref(), indices);
+
+    let mut child_len = O::default();
+
+    match nulls.as_ref().filter(|n| n.null_count > 0) {
+        None => {
+            for &idx in indices.values {
+                let row = idx.as_usize();
+                child_len = child_len
+                    .checked_add(src_offsets[row + 1].minus(src_offsets[row]))
+                    .ok_or_else(|| Error::OffsetOverflow(child_len.as_usize()))?;
+            }
+        }
+        Some(valid) => {
+            for vidx in valid.valid_indices() {
+                // SAFETY: vidx < indices.len(), guaranteed by valid_indices().
+                let row = unsafe { indices.value_unchecked(vidx) }.as_usize();
+                child_len = child_len
+                    .checked_add(src_offsets[row + 1].minus(src_offsets[row]))
+                    .ok_or_else(|| Error::OffsetOverflow(child_len.as_usize()))?;
+            }
+        }
+    }
+
+    Ok(child_len.as_usize() * bytes_per_value)
 }
 
 /// `take` implementation for `FixedSizeListArray` of a primitive child without nulls

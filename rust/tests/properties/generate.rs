@@ -148,7 +148,8 @@ pub fn encode(numbers: &[u64], width: u64) -> Bytes {
     Bytes(bytes)
 }
 
-fn lay_out_validity(random: &mut Random, valid: &[bool]) -> (Bytes, u64) {
+/// The bits of a validity and its bit offset; or none, where all are valid.
+pub fn lay_out_validity(random: &mut Random, valid: &[bool]) -> (Bytes, u64) {
     if valid.iter().all(|valid| *valid) && random.once_in(2) {
         return (Bytes::default(), random.edge());
     }

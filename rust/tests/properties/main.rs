@@ -1,14 +1,20 @@
-//! The archive against an independent model of the gather, on generated columns, byte for byte.
+//! The archive against an independent model of the gather, and against the loops of `take.rs`, on
+//! generated columns, byte for byte.
 
 mod archive;
+#[path = "../../benches/take/arrow.rs"]
+mod arrow;
 mod case;
 mod check;
 mod damage;
 mod generate;
 mod limits;
+mod loops;
 mod model;
 mod overflow;
 mod privacy;
 mod published;
 mod random;
+#[path = "../../benches/take/reference.rs"]
+mod reference;
 mod well_formed;

@@ -106,7 +106,7 @@ fn trial_10_overflow_before_space() {
 }
 
 /// One row of 65,536 bytes, by so many times index 0; only the data output is too short.
-fn long_row(kind: u64, count: usize) -> Case {
+pub fn long_row(kind: u64, count: usize) -> Case {
     Case {
         table: Table {
             kind,
