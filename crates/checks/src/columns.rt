@@ -35,7 +35,7 @@ pub fn check_columns(
     let Checked::Fit = sizes else {
         return sizes;
     };
-    check_offsets(table, data, offsets, validity)
+    check_offsets(table, data, offsets)
 }
 
 // A column with no indices to gather.

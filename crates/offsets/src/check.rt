@@ -11,11 +11,10 @@ ghost use mathlib.Core.Path.{_≡_};
 ghost use Prim.Native.Nat.{suc, _+_, _≤_};
 ghost use Rattle.bits.specs.Sequences.{any, first};
 ghost use Rattle.bits.specs.Numbers.{numberAt};
-ghost use Rattle.tables.specs.Columns.{columnAt};
 ghost use Rattle.tables.specs.Answers.{checkedNumbers};
 ghost use Rattle.tables.specs.Refusals.{maxBytes, isBad};
 ghost use Rattle.tables.specs.Stages.{offsetsRefusal};
-ghost use Rattle.tables.specs.Bounds.{Offsets, Sized, falls};
+ghost use Rattle.tables.specs.Bounds.{Offsets, Sized, falls, bareColumnAt};
 
 // Some of the eight offsets after offset i is below the one before.
 fn falls_in_eight(offsets: &[u8], w: usize, rows: usize, i: usize) -> bool
@@ -99,11 +98,10 @@ fn bad_offset(offsets: &[u8], w: usize, rows: usize, most: u64) -> u64
     rows as u64 + 1
 }
 
-// Refusal 4 of a column that passed refusals 1 to 3. A column without offsets passes at once. `validity` is not read: it belongs to
-// the column that the contract speaks of.
-pub fn check_offsets(table: Table, data: &[u8], offsets: &[u8], validity: &[u8]) -> Checked
-    requires { ⌜ Sized (columnAt table «data» offsets validity) ⌝ }
-    ensures { λ r. ⌜ checkedNumbers r ≡ offsetsRefusal (columnAt table («data» .entry) (offsets .entry) (validity .entry)) ⌝ }
+// Refusal 4 of a column that passed refusals 1 to 3. A column without offsets passes at once. Of the data only the length is looked at.
+pub fn check_offsets(table: Table, data: &[u8], offsets: &[u8]) -> Checked
+    requires { ⌜ Sized (bareColumnAt table «data» offsets) ⌝ }
+    ensures { λ r. ⌜ checkedNumbers r ≡ offsetsRefusal (bareColumnAt table («data» .entry) (offsets .entry)) ⌝ }
 {
     let kind = kind_of(table.kind);
     let layout = layout_of(kind, table);

@@ -9,8 +9,7 @@ use variable::total::Measured;
 use variable::total::measure_variable;
 ghost use mathlib.Core.Path.{_≡_};
 ghost use Rattle.tables.specs.Columns.{columnAt, indexColumnAt};
-ghost use Rattle.tables.specs.Rows.{rowsOf};
-ghost use Rattle.gathers.specs.Taken.{takeRows};
+ghost use Rattle.gathers.specs.Taken.{taken};
 ghost use Rattle.gathers.specs.Gather.{measured};
 ghost use Rattle.gathers.specs.Ready.{Ready};
 ghost use Rattle.variable.specs.Measured.{measuredNumbers};
@@ -25,7 +24,9 @@ pub fn measure(
     index_validity: &[u8],
 ) -> Measured
     requires { ⌜ Ready (columnAt table «data» offsets validity) (indexColumnAt indices «index_data» «index_validity») ⌝ }
-    ensures { λ r. ⌜ measuredNumbers r ≡ measured (takeRows (rowsOf (columnAt table («data» .entry) (offsets .entry) (validity .entry))) (indexColumnAt indices («index_data» .entry) («index_validity» .entry))) ⌝ }
+    ensures { λ r. ⌜ measuredNumbers r ≡ measured (taken
+        (columnAt table («data» .entry) (offsets .entry) (validity .entry))
+        (indexColumnAt indices («index_data» .entry) («index_validity» .entry))) ⌝ }
 {
     let kind = kind_of(table.kind);
     let layout = layout_of(kind, table);

@@ -11,17 +11,8 @@ use tables::table::Table;
 use variable::take::take_bytes;
 use variable::take::take_list;
 ghost use mathlib.Core.Path.{_≡_};
-ghost use mathlib.Core.Bool.{true};
-ghost use Prim.Native.Nat.{_≤_};
-ghost use lib.ListN.{length};
-ghost use Rattle.bits.specs.Bytes.{overwrite};
-ghost use Rattle.tables.specs.Columns.{columnAt, indexColumnAt, layoutAt};
-ghost use Rattle.tables.specs.Answers.{passes};
-ghost use Rattle.tables.specs.Rows.{rowsOf};
-ghost use Rattle.gathers.specs.Taken.{takeRows};
-ghost use Rattle.gathers.specs.Stored.{offsetLength, dataBytes, dataLength, storeOffsets};
-ghost use Rattle.gathers.specs.Gather.{overflowRefusal};
-ghost use Rattle.gathers.specs.Ready.{Ready};
+ghost use Rattle.tables.specs.Columns.{columnAt, indexColumnAt};
+ghost use Rattle.gathers.specs.Ready.{Ready, NoOverflow, HasRoom, storedOffsets, storedData};
 ghost use Rattle.gathers.specs.Buffers.{Validates, someOutside};
 
 pub fn take_values(
@@ -38,15 +29,18 @@ pub fn take_values(
     out_data: &mut [u8],
 )
     requires { ⌜ Ready (columnAt table «data» offsets validity) (indexColumnAt indices «index_data» «index_validity») ⌝ }
-    requires { ⌜ (offsetLength (layoutAt (columnAt table «data» offsets validity)) (takeRows (rowsOf (columnAt table «data» offsets validity)) (indexColumnAt indices «index_data» «index_validity»)) ≤ length (now «out_offsets»))
-        × (dataLength (layoutAt (columnAt table «data» offsets validity)) (takeRows (rowsOf (columnAt table «data» offsets validity)) (indexColumnAt indices «index_data» «index_validity»)) ≤ length (now «out_data»)) ⌝ }
+    requires { ⌜ HasRoom (columnAt table «data» offsets validity) (indexColumnAt indices «index_data» «index_validity») (now «out_offsets») (now «out_data») ⌝ }
     requires { ⌜ outside ≡ someOutside (table .rows) (indexColumnAt indices «index_data» «index_validity») ⌝ }
-    requires { ⌜ passes (overflowRefusal (takeRows (rowsOf (columnAt table «data» offsets validity)) (indexColumnAt indices «index_data» «index_validity»))) ≡ true ⌝ }
+    requires { ⌜ NoOverflow (columnAt table «data» offsets validity) (indexColumnAt indices «index_data» «index_validity») ⌝ }
     requires { ⌜ Validates (now validity) (table .«validity_bit») (indexColumnAt indices «index_data» «index_validity») (now valid) ⌝ }
-    ensures { λ _. ⌜ now («out_offsets» .exit) ≡ storeOffsets (layoutAt (columnAt table («data» .entry) (offsets .entry) (validity .entry)))
-        (takeRows (rowsOf (columnAt table («data» .entry) (offsets .entry) (validity .entry))) (indexColumnAt indices («index_data» .entry) («index_validity» .entry))) (now («out_offsets» .entry)) ⌝ }
-    ensures { λ _. ⌜ now («out_data» .exit) ≡ overwrite (dataBytes (layoutAt (columnAt table («data» .entry) (offsets .entry) (validity .entry)))
-        (takeRows (rowsOf (columnAt table («data» .entry) (offsets .entry) (validity .entry))) (indexColumnAt indices («index_data» .entry) («index_validity» .entry)))) (now («out_data» .entry)) ⌝ }
+    ensures { λ _. ⌜ now («out_offsets» .exit) ≡ storedOffsets
+        (columnAt table («data» .entry) (offsets .entry) (validity .entry))
+        (indexColumnAt indices («index_data» .entry) («index_validity» .entry))
+        (now («out_offsets» .entry)) ⌝ }
+    ensures { λ _. ⌜ now («out_data» .exit) ≡ storedData
+        (columnAt table («data» .entry) (offsets .entry) (validity .entry))
+        (indexColumnAt indices («index_data» .entry) («index_validity» .entry))
+        (now («out_data» .entry)) ⌝ }
 {
     let kind = kind_of(table.kind);
     let rows = table.rows as usize;

@@ -1,7 +1,8 @@
 -- `checks::columns::check_columns` meets its contract: the answer of the two stages is that of the first that refuses. Assumes nothing.
 use borrow.Author.Needs.{needs}
-use Rattle.tables.specs.Columns.{IndexColumn}
-use Rattle.tables.proofs.Stages.{fit-sized, stage-refused, stage-passed}
+use mathlib.Core.Path.{_∙_}
+use Rattle.tables.specs.Columns.{Column, IndexColumn}
+use Rattle.tables.proofs.Stages.{fit-sized, stage-refused, stage-passed, sized-bare, offsets-bare}
 use Rattle.checks.proofs.columns.check_columns.Statement.{statement}
 use Rattle.checks.proofs.columns.check_columns.Tie as tie
 
@@ -21,12 +22,13 @@ check-offsets-requires : tie.Need-check-offsets-requires
 check-offsets-requires c κs =
     let a = c .before .before .before .before .before .before .before .before .args in
     let x : IndexColumn = record { indices = a .indices; «data» = a .index-data .now; validity = a .index-validity .now } in
-    fit-sized _ x (c .before .before .check-sizes .ensures) (c .enum-told .given .1)
+    let d : Column = record { table = a .table; «data» = a .«data» .now; offsets = a .offsets .now; validity = a .validity .now } in
+    sized-bare d (fit-sized d x (c .before .before .check-sizes .ensures) (c .enum-told .given .1))
 
 returns-2 : tie.Need-returns-2
 returns-2 c =
     let t = c .before in
-    stage-passed _ _ (t .before .before .check-sizes .ensures) (t .enum-told .given .1) (c .check-offsets .ensures)
+    stage-passed _ _ (t .before .before .check-sizes .ensures) (t .enum-told .given .1) (c .check-offsets .ensures ∙ offsets-bare _)
 
 pub check-columns-spec : {M : Type 1} → statement M
 check-columns-spec =

@@ -9,7 +9,7 @@ kind-of-requires : tie.Need-kind-of-requires
 kind-of-requires c κs = search needs
 
 layout-of-requires : tie.Need-layout-of-requires
-layout-of-requires c κs = sized-row-fits _ (c .before .before .before .before .pre) (c .kind-of .ensures)
+layout-of-requires c κs = sized-row-fits _ (c .before .before .before .pre) (c .kind-of .ensures)
 
 enum-told : tie.Need-enum-told
 enum-told c = search needs
@@ -24,14 +24,14 @@ div-most : tie.Need-div-most
 div-most c =
     let m = c .before .before in
     let k = m .before .before in
-    let p = k .before .before .before .before .pre in
+    let p = k .before .before .before .pre in
     variable-unit _ p _ (layout-told _ (k .kind-of .ensures) (m .before .layout-of .ensures) ∙ c .before .layout .given .1)
 
 bad-offset-requires : tie.Need-bad-offset-requires
 bad-offset-requires c κs =
     let m = c .before .before in
     let k = m .before .before in
-    let p = k .before .before .before .before .pre in
+    let p = k .before .before .before .pre in
     let e = layout-told _ (k .kind-of .ensures) (m .before .layout-of .ensures) ∙ c .before .layout .given .1 in
     (variable-offsets _ p _ e, variable-most _ p _ e)
 
