@@ -16,7 +16,8 @@ use Rattle.tables.specs.Refusals.{indexRefusal, formRefusal, WellFormed}
 use Rattle.tables.specs.Rows.{Rows, rowsOf}
 use Rattle.gathers.specs.Taken.{takeRows}
 use Rattle.gathers.specs.Stored.{Output, validityBytes, dataBytes, validityLength, offsetLength, dataLength, nullCount, storeOffsets}
-use Rattle.gathers.specs.Gather.{rangeRefusal, overflowRefusal, measured, spaceRefusal, refusals, Outcome, gather}
+use Rattle.gathers.specs.Gather.{refusals, Outcome, gather}
+use Rattle.gathers.specs.Stages.{rangeRefusal, overflowRefusal, measured, spaceRefusal}
 use Rattle.gathers.specs.Ready.{Ready}
 use Rattle.gathers.specs.Buffers.{someOutside}
 use Rattle.gathers.specs.Blank.{blank}

@@ -12,7 +12,7 @@ use Rattle.tables.specs.Bounds.{RowFits, Bounds}
 use Rattle.tables.specs.Rows.{rowsBy, rowsOf}
 use Rattle.gathers.specs.Taken.{takeRows}
 use Rattle.gathers.specs.Stored.{Output, offsetLength, dataLength}
-use Rattle.gathers.specs.Gather.{spaceRefusal}
+use Rattle.gathers.specs.Stages.{spaceRefusal}
 use Rattle.stages.specs.Space.{offsetBytesFor, lengthsFor, lengthsRefusal, lentLengths}
 use Rattle.tables.proofs.Stages.{layout-told, sized-row-fits, sized-bounds, well-formed-sized}
 use Rattle.tables.proofs.Views.{rowsOf-by}

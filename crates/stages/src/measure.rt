@@ -10,7 +10,7 @@ ghost use mathlib.Core.Path.{_≡_};
 ghost use Rattle.tables.specs.Columns.{columnAt, indexColumnAt};
 ghost use Rattle.tables.specs.Rows.{rowsOf};
 ghost use Rattle.gathers.specs.Taken.{takeRows};
-ghost use Rattle.gathers.specs.Gather.{measured};
+ghost use Rattle.gathers.specs.Stages.{measured};
 ghost use Rattle.gathers.specs.Ready.{Ready};
 ghost use Rattle.variable.specs.Measured.{measuredNumbers};
 

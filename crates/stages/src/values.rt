@@ -20,7 +20,7 @@ ghost use Rattle.tables.specs.Answers.{passes};
 ghost use Rattle.tables.specs.Rows.{rowsOf};
 ghost use Rattle.gathers.specs.Taken.{takeRows};
 ghost use Rattle.gathers.specs.Stored.{offsetLength, dataBytes, dataLength, storeOffsets};
-ghost use Rattle.gathers.specs.Gather.{overflowRefusal};
+ghost use Rattle.gathers.specs.Stages.{overflowRefusal};
 ghost use Rattle.gathers.specs.Ready.{Ready};
 ghost use Rattle.gathers.specs.Buffers.{Validates, someOutside};
 
