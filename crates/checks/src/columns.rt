@@ -8,8 +8,8 @@ use tables::table::Lengths;
 use tables::table::Table;
 ghost use mathlib.Core.Path.{_≡_};
 ghost use Rattle.tables.specs.Columns.{columnAt, indexColumnAt};
-ghost use Rattle.tables.specs.Answers.{checkedNumbers};
-ghost use Rattle.tables.specs.Refusals.{columnRefusal, formRefusal};
+ghost use Rattle.tables.specs.Stages.{checkedNumbers, formRefusal};
+ghost use Rattle.tables.specs.Refusals.{columnRefusal};
 
 pub fn check_columns(
     table: Table,

@@ -11,12 +11,14 @@ use Rattle.tables.specs.declared.refusal.Checked.the-variants.{Fit, Unfit}
 use Rattle.tables.specs.declared.refusal.Refusal.{Refusal}
 use Rattle.tables.specs.declared.table.Layout.{Layout}
 use Rattle.tables.specs.Columns.{Column, IndexColumn, layoutAt}
-use Rattle.tables.specs.Answers.{passes, refusalNumbers, checkedNumbers, firstOf}
-use Rattle.tables.specs.Refusals.{indexRefusal, formRefusal, WellFormed}
+use Rattle.tables.specs.Answers.{passes, refusalNumbers, firstOf}
+use Rattle.tables.specs.Stages.{checkedNumbers, formRefusal}
+use Rattle.tables.specs.Refusals.{indexRefusal, WellFormed}
 use Rattle.tables.specs.Rows.{Rows, rowsOf}
 use Rattle.gathers.specs.Taken.{takeRows}
 use Rattle.gathers.specs.Stored.{Output, validityBytes, dataBytes, validityLength, offsetLength, dataLength, nullCount, storeOffsets}
-use Rattle.gathers.specs.Gather.{rangeRefusal, overflowRefusal, measured, spaceRefusal, refusals, Outcome, gather}
+use Rattle.gathers.specs.Gather.{refusals, Outcome, gather}
+use Rattle.gathers.specs.Stages.{rangeRefusal, overflowRefusal, measured, spaceRefusal}
 use Rattle.gathers.specs.Ready.{Ready}
 use Rattle.gathers.specs.Buffers.{someOutside}
 use Rattle.gathers.specs.Blank.{blank}

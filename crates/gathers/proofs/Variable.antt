@@ -9,6 +9,7 @@ use lib.Dec.{eqb}
 use lib.ListN.{length}
 use borrow.Author.Tests.{le-ltb, lt-leb}
 use Rattle.bits.specs.Sequences.{concat, sum}
+use Rattle.tables.specs.Kinds.{isOffsetWidth}
 use Rattle.tables.specs.Columns.{Column, offsetAt}
 use Rattle.tables.specs.Refusals.{maxBytes, isBadOffset}
 use Rattle.tables.specs.Rows.{Rows, rowBytes, rowsBy}
@@ -22,6 +23,21 @@ use Rattle.tables.proofs.Offsets.{wide, VariableFacts, below, telescope}
 use Rattle.tables.proofs.Rows.{variable-length}
 use Rattle.tables.proofs.Views.{offsetAt-number}
 use Rattle.gathers.proofs.Replaced.{length-offsetsWith, offset-with}
+
+-- no offset is bad that is the running total of the rows before it, where the data holds as many entries as the rows together
+pub running-good : (u : ℕ) (d : Column) (e : ℕ → ℕ) → isOffsetWidth (d .table .«offset_width») ≡ true
+    → ((i : ℕ) → i ≤ d .table .rows → offsetAt d i ≡ sum i e) → length (d .«data») / u ≡ sum (d .table .rows) e → sum (d .table .rows) e ≤ maxBytes
+    → (i : ℕ) → i ≤ d .table .rows → isBadOffset u d i ≡ false
+running-good u d e width offset held small i h =
+    let a : offsetAt d i ≡ sum i e = offset i h in
+    let b : offsetAt d (i - 1) ≡ sum (i - 1) e = offset (i - 1) (omega arith) in
+    let s : sum i e ≤ sum (d .table .rows) e = sum-mono (d .table .rows) e h in
+    let t : sum (i - 1) e ≤ sum i e = sum-mono {i = i - 1} i e (omega arith) in
+    false-or
+    (false-or
+    (lt-leb (2 ^ (8 * d .table .«offset_width» - 1)) (offsetAt d i) (omega (arith, wide (d .table .«offset_width») width .0)))
+    (and-false-right (not (eqb i 0)) (le-ltb (offsetAt d i) (offsetAt d (i - 1)) (omega arith))))
+    (le-ltb (length (d .«data») / u) (offsetAt d i) (omega arith))
 
 module _ (u : ℕ) (c : Column) (r : VariableFacts u c) where
   module _ (k : Kind) (un : Bool) (keep : ℕ → Bool) where
@@ -78,13 +94,4 @@ module _ (u : ℕ) (c : Column) (r : VariableFacts u c) where
     count-d = rw data-length (mul-div-cancel (sum (c .table .rows) (m .entries)) (r .unit))
 
     pub good-d : (i : ℕ) → i ≤ c .table .rows → isBadOffset u d i ≡ false
-    good-d i h =
-        let a : offsetAt d i ≡ sum i (m .entries) = offset-d i h in
-        let b : offsetAt d (i - 1) ≡ sum (i - 1) (m .entries) = offset-d (i - 1) (omega arith) in
-        let s : sum i (m .entries) ≤ sum (c .table .rows) (m .entries) = sum-mono (c .table .rows) (m .entries) h in
-        let t : sum (i - 1) (m .entries) ≤ sum i (m .entries) = sum-mono {i = i - 1} i (m .entries) (omega arith) in
-        false-or
-        (false-or
-        (lt-leb (2 ^ (8 * c .table .«offset_width» - 1)) (offsetAt d i) (omega (arith, total-small, wide (c .table .«offset_width») (r .width) .0)))
-        (and-false-right (not (eqb i 0)) (le-ltb (offsetAt d i) (offsetAt d (i - 1)) (omega arith))))
-        (le-ltb (length (d .«data») / u) (offsetAt d i) (omega (arith, count-d)))
+    good-d = running-good u d (m .entries) (r .width) offset-d count-d total-small

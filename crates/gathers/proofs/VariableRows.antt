@@ -19,9 +19,10 @@ use Rattle.tables.specs.Columns.{Column, IndexColumn, kindAt, layoutAt, offsetA
 use Rattle.tables.specs.Answers.{refuse, passes}
 use Rattle.tables.specs.Refusals.{maxRows, maxBytes}
 use Rattle.tables.specs.Rows.{Rows, rowsOf}
-use Rattle.gathers.specs.Taken.{takenValid, takeRows}
+use Rattle.gathers.specs.Taken.{takenValid, taken}
 use Rattle.gathers.specs.Stored.{startOf, offsetBytes, dataBytes, offsetLength, dataLength}
-use Rattle.gathers.specs.Gather.{overflowAt, overflowTotal, overflowRefusal, measured}
+use Rattle.gathers.specs.Gather.{overflowAt, overflowTotal}
+use Rattle.gathers.specs.Stages.{overflowRefusal, measured}
 use Rattle.gathers.specs.Ready.{Ready}
 use Rattle.gathers.specs.Buffers.{takenBitValid, takenEntries, takenBytes}
 use Rattle.bits.proofs.Tests.{and-true}
@@ -36,7 +37,7 @@ use Rattle.gathers.proofs.Buffers.{valid-below}
 
 module _ (c : Column) (x : IndexColumn) where
   abbrev v : Rows
-  v = takeRows (rowsOf c) x
+  v = taken c x
 
   -- ---- by the buffers
 
@@ -166,27 +167,27 @@ module _ (v : Rows) where
 
 module _ (c : Column) (x : IndexColumn) (u : ℕ) (e : layoutAt c ≡ VariableWidth u) where
   pub overflow-narrow : c .table .«offset_width» ≡ 4
-      → overflowAt (layoutAt c) (takeRows (rowsOf c) x) ≡ first (x .indices .count) (λ i. ltb 2_147_483_647 (sum (suc i) (takenEntries c x)))
+      → overflowAt (layoutAt c) (taken c x) ≡ first (x .indices .count) (λ i. ltb 2_147_483_647 (sum (suc i) (takenEntries c x)))
   unfolding overflowAt startOf takenEntries takenValid takenBitValid
   overflow-narrow d = rw (rowsOf-by c, e, eq-eqb (c .table .«offset_width») 4 d)
 
-  pub overflow-wide : (c .table .«offset_width» ≡ 4 → ⊥) → overflowAt (layoutAt c) (takeRows (rowsOf c) x) ≡ x .indices .count
+  pub overflow-wide : (c .table .«offset_width» ≡ 4 → ⊥) → overflowAt (layoutAt c) (taken c x) ≡ x .indices .count
   unfolding overflowAt
   overflow-wide n = rw (rowsOf-by c, e, ne-eqb (c .table .«offset_width») 4 n)
 
-  by-layout : {p : ℕ} → overflowAt (layoutAt c) (takeRows (rowsOf c) x) ≡ p → overflowAt (rowsOf c .layout) (takeRows (rowsOf c) x) ≡ p
-  by-layout d = ap (λ (w : Rows). overflowAt (w .layout) (takeRows (rowsOf c) x)) (rowsOf-by c) ∙ d
+  by-layout : {p : ℕ} → overflowAt (layoutAt c) (taken c x) ≡ p → overflowAt (rowsOf c .layout) (taken c x) ≡ p
+  by-layout d = ap (λ (w : Rows). overflowAt (w .layout) (taken c x)) (rowsOf-by c) ∙ d
 
-  pub variable-fit : {n : ℕ} → overflowAt (layoutAt c) (takeRows (rowsOf c) x) ≡ x .indices .count → n ≡ sum (x .indices .count) (takenEntries c x) * u
-      → record { number = 0; place = 0; total = n; nulls = 0 } ≡ measured (takeRows (rowsOf c) x)
+  pub variable-fit : {n : ℕ} → overflowAt (layoutAt c) (taken c x) ≡ x .indices .count → n ≡ sum (x .indices .count) (takenEntries c x) * u
+      → record { number = 0; place = 0; total = n; nulls = 0 } ≡ measured (taken c x)
   variable-fit d f =
-      let v : Rows = takeRows (rowsOf c) x in
+      let v : Rows = taken c x in
       let t : dataLength (v .layout) v ≡ _ = ap (λ (w : Rows). dataLength (w .layout) v) (rowsOf-by c) ∙ data-length-by-buffer c x u e ∙ sym f in
       sym (measured-fit v (by-layout d) ∙ ap (λ (n : ℕ). refuse 0 0 n) t)
 
-  pub variable-over : {p new old : ℕ} → overflowAt (layoutAt c) (takeRows (rowsOf c) x) ≡ p → p < x .indices .count → new ≡ sum (suc p) (takenEntries c x) → old ≡ sum p (takenEntries c x)
-      → refuse 6 p (overflowTotal (kindAt c) new old) ≡ measured (takeRows (rowsOf c) x)
+  pub variable-over : {p new old : ℕ} → overflowAt (layoutAt c) (taken c x) ≡ p → p < x .indices .count → new ≡ sum (suc p) (takenEntries c x) → old ≡ sum p (takenEntries c x)
+      → refuse 6 p (overflowTotal (kindAt c) new old) ≡ measured (taken c x)
   variable-over {p} d h f g =
-      let v : Rows = takeRows (rowsOf c) x in
+      let v : Rows = taken c x in
       let k : rowsOf c .kind ≡ kindAt c = ap (λ (w : Rows). w .kind) (rowsOf-by c) in
       sym (measured-over v p (by-layout d) h ∙ rw (start-by-buffer c x u e (suc p), start-by-buffer c x u e p, k, f, g))

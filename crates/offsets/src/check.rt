@@ -11,9 +11,8 @@ ghost use mathlib.Core.Path.{_≡_};
 ghost use Prim.Native.Nat.{suc, _+_, _≤_};
 ghost use Rattle.bits.specs.Sequences.{any, first};
 ghost use Rattle.bits.specs.Numbers.{numberAt};
-ghost use Rattle.tables.specs.Answers.{checkedNumbers};
+ghost use Rattle.tables.specs.Stages.{checkedNumbers, offsetsRefusal};
 ghost use Rattle.tables.specs.Refusals.{maxBytes, isBad};
-ghost use Rattle.tables.specs.Stages.{offsetsRefusal};
 ghost use Rattle.tables.specs.Bounds.{Offsets, Sized, falls, bareColumnAt};
 
 // Some of the eight offsets after offset i is below the one before.

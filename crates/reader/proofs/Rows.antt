@@ -17,7 +17,8 @@ use Rattle.tables.specs.declared.refusal.Checked.{Checked}
 use Rattle.tables.specs.declared.refusal.Checked.the-variants.{Fit, Unfit}
 use Rattle.tables.specs.declared.refusal.Refusal.{Refusal}
 use Rattle.tables.specs.Columns.{Column, kindAt, layoutAt, offsetAt}
-use Rattle.tables.specs.Answers.{passes, checkedNumbers}
+use Rattle.tables.specs.Answers.{passes}
+use Rattle.tables.specs.Stages.{checkedNumbers}
 use Rattle.tables.specs.Refusals.{columnRefusal, WellFormed}
 use Rattle.tables.specs.Rows.{rowsOf}
 use Rattle.reader.specs.declared.row.Found.{Found}

@@ -14,10 +14,11 @@ ghost use lib.ListN.{length};
 ghost use Rattle.bits.specs.Sequences.{any};
 ghost use Rattle.bits.specs.Numbers.{numberAt, isNumberWidth};
 ghost use Rattle.tables.specs.Columns.{indexColumnAt};
-ghost use Rattle.tables.specs.Answers.{passes, checkedNumbers};
+ghost use Rattle.tables.specs.Answers.{passes};
+ghost use Rattle.tables.specs.Stages.{checkedNumbers};
 ghost use Rattle.tables.specs.Refusals.{indexRefusal};
 ghost use Rattle.gathers.specs.Buffers.{someOutside};
-ghost use Rattle.gathers.specs.Gather.{rangeRefusal};
+ghost use Rattle.gathers.specs.Stages.{rangeRefusal};
 
 // Whether x is above last, of numbers of w bytes: compared at that width, so that a loop over many compares as many at once.
 fn is_above(last: u64, x: u64, w: usize) -> bool

@@ -18,9 +18,8 @@ ghost use mathlib.Core.Path.{_≡_};
 ghost use mathlib.Core.Bool.{false};
 ghost use Prim.Native.Nat.{_+_, _≤_};
 ghost use Rattle.bits.specs.Bits.{bytesFor};
-ghost use Rattle.tables.specs.Answers.{checkedNumbers};
+ghost use Rattle.tables.specs.Stages.{checkedNumbers, statedRefusal};
 ghost use Rattle.tables.specs.Refusals.{maxRows, maxBit, badKind, usedOverLimit, validityOverLimit, overLimit, dataShort, validityShort, tooShort, indexOverLimit, indexTooShort};
-ghost use Rattle.tables.specs.Stages.{statedRefusal};
 ghost use Rattle.tables.specs.Bounds.{Bounds, IndexBounds};
 
 const MAX_ROWS: u64 = 1_048_576;

@@ -11,9 +11,9 @@ use Rattle.tables.specs.Refusals.{WellFormed}
 use Rattle.tables.specs.Bounds.{RowFits, Bounds}
 use Rattle.tables.specs.Rows.{rowsBy, rowsOf}
 use Rattle.gathers.specs.Taken.{takeRows}
-use Rattle.gathers.specs.Stored.{Output, offsetLength, dataLength}
-use Rattle.gathers.specs.Gather.{spaceRefusal}
-use Rattle.stages.specs.Space.{offsetBytesFor, lengthsFor, lengthsRefusal, lentLengths}
+use Rattle.gathers.specs.Stored.{Output, lentLengths, offsetLength, dataLength}
+use Rattle.gathers.specs.Stages.{spaceRefusal}
+use Rattle.stages.specs.Space.{offsetBytesFor, lengthsFor, lengthsRefusal}
 use Rattle.tables.proofs.Stages.{layout-told, sized-row-fits, sized-bounds, well-formed-sized}
 use Rattle.tables.proofs.Views.{rowsOf-by}
 use Rattle.gathers.proofs.Stages.{spaceRefusal-lines}

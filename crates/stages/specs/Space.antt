@@ -1,14 +1,11 @@
 -- Refusal 7 by the lengths of the outputs: the bytes that they need and the bytes that are lent.
 use Prim.Native.Nat.{ℕ, suc, _*_}
-use mathlib.Core.List.{[], _∷_}
-use lib.ListN.{length}
 use Rattle.bits.specs.Bits.{bytesFor}
 use Rattle.tables.specs.declared.refusal.Answer.{Answer}
 use Rattle.tables.specs.declared.table.Layout.{Layout}
 use Rattle.tables.specs.declared.table.Layout.the-variants.{FixedWidth, BitMap, VariableWidth}
 use Rattle.tables.specs.Answers.{firstOf}
-use Rattle.gathers.specs.Stored.{Output}
-use Rattle.gathers.specs.Gather.{spaceLine}
+use Rattle.gathers.specs.Gather.{spaceLines}
 use Rattle.tables.specs.declared.table.Lengths.{Lengths}
 
 -- the offsets of count rows, of w bytes each
@@ -22,13 +19,4 @@ lengthsFor l w count «data» = record { validity = bytesFor count; offsets = of
 
 -- the first output that is shorter than it needs to be
 unfoldable pub lengthsRefusal : Lengths → Lengths → Answer
-lengthsRefusal needed lent =
-    firstOf
-    (spaceLine 1 (needed .validity) (lent .validity)
-    ∷ spaceLine 2 (needed .offsets) (lent .offsets)
-    ∷ spaceLine 3 (needed .«data») (lent .«data»)
-    ∷ [])
-
--- the lengths of lent outputs
-abbrev pub lentLengths : Output → Lengths
-lentLengths o = record { validity = length (o .validity); offsets = length (o .offsets); «data» = length (o .«data») }
+lengthsRefusal needed lent = firstOf (spaceLines needed lent)

@@ -10,7 +10,7 @@ use variable::total::measure_variable;
 ghost use mathlib.Core.Path.{_≡_};
 ghost use Rattle.tables.specs.Columns.{columnAt, indexColumnAt};
 ghost use Rattle.gathers.specs.Taken.{taken};
-ghost use Rattle.gathers.specs.Gather.{measured};
+ghost use Rattle.gathers.specs.Stages.{measured};
 ghost use Rattle.gathers.specs.Ready.{Ready};
 ghost use Rattle.variable.specs.Measured.{measuredNumbers};
 

@@ -9,7 +9,7 @@ use tables::table::Table;
 ghost use mathlib.Core.Path.{_≡_};
 ghost use Prim.Native.Nat.{_≤_};
 ghost use Rattle.tables.specs.Kinds.{kindOf, layoutOf};
-ghost use Rattle.tables.specs.Answers.{checkedNumbers};
+ghost use Rattle.tables.specs.Stages.{checkedNumbers};
 ghost use Rattle.tables.specs.Refusals.{maxRows};
 ghost use Rattle.tables.specs.Bounds.{RowFits, Bounds};
 ghost use Rattle.stages.specs.Space.{offsetBytesFor, lengthsFor, lengthsRefusal};

@@ -19,7 +19,8 @@ use Rattle.tables.specs.Answers.{refuse}
 use Rattle.tables.specs.Columns.{Column, IndexColumn, layoutAt}
 use Rattle.tables.specs.Rows.{rowsOf}
 use Rattle.gathers.specs.Taken.{takeRows}
-use Rattle.gathers.specs.Gather.{overflowAt, overflowTotal, measured}
+use Rattle.gathers.specs.Gather.{overflowAt, overflowTotal}
+use Rattle.gathers.specs.Stages.{measured}
 use Rattle.gathers.specs.Ready.{Ready}
 use Rattle.gathers.specs.Buffers.{takenEntries}
 use Rattle.bits.proofs.Sequences.{sum-mono, first-at, first-before, first-none}

@@ -14,7 +14,7 @@ use Rattle.tables.specs.Answers.{passes}
 use Rattle.tables.specs.Rows.{rowsOf}
 use Rattle.gathers.specs.Taken.{takeRows}
 use Rattle.gathers.specs.Stored.{offsetBytes}
-use Rattle.gathers.specs.Gather.{overflowRefusal}
+use Rattle.gathers.specs.Stages.{overflowRefusal}
 use Rattle.gathers.specs.Buffers.{takenEntries}
 use Rattle.bits.proofs.Bytes.{overwrite-tail, block-inside}
 use Rattle.bits.proofs.Numbers.{length-toLittleEndian, numberAt-concat}

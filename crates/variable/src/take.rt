@@ -24,7 +24,7 @@ ghost use Rattle.tables.specs.Answers.{passes};
 ghost use Rattle.tables.specs.Rows.{rowsOf};
 ghost use Rattle.gathers.specs.Taken.{takeRows};
 ghost use Rattle.gathers.specs.Stored.{offsetBytes, dataBytes, offsetLength, dataLength};
-ghost use Rattle.gathers.specs.Gather.{overflowRefusal};
+ghost use Rattle.gathers.specs.Stages.{overflowRefusal};
 ghost use Rattle.gathers.specs.Buffers.{takenEntries, Validates};
 ghost use Rattle.gathers.specs.Ready.{Ready};
 ghost use Rattle.variable.specs.Copied.{rowsTo, VariableShown, Totals, RowsCopied, CopyReady, rowFrom, rowAt, RowRoom, RowPut};

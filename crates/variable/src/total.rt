@@ -13,7 +13,8 @@ ghost use Rattle.tables.specs.declared.table.Layout.the-variants.{VariableWidth
 ghost use Rattle.tables.specs.Columns.{columnAt, indexColumnAt, layoutAt};
 ghost use Rattle.tables.specs.Rows.{rowsOf};
 ghost use Rattle.gathers.specs.Taken.{takeRows};
-ghost use Rattle.gathers.specs.Gather.{overflowTotal, measured};
+ghost use Rattle.gathers.specs.Gather.{overflowTotal};
+ghost use Rattle.gathers.specs.Stages.{measured};
 ghost use Rattle.gathers.specs.Buffers.{takenEntries};
 ghost use Rattle.gathers.specs.Ready.{Ready};
 ghost use Rattle.variable.specs.Taken.{VariableReady};

@@ -7,7 +7,7 @@ use native.Mathlib.Omega.{arith}
 use borrow.Author.Count.{below-more}
 use Rattle.tables.specs.declared.refusal.Checked.the-variants.{Fit}
 use Rattle.tables.specs.Columns.{indexColumnAt}
-use Rattle.tables.specs.Answers.{checkedNumbers}
+use Rattle.tables.specs.Stages.{checkedNumbers}
 use Rattle.tables.proofs.Facts.{index-formed}
 use Rattle.tables.proofs.There.{index-there-at, index-valid-there}
 use Rattle.gathers.proofs.Stages.{range-accepted, range-refused}
