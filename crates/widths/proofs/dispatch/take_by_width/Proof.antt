@@ -1,8 +1,8 @@
--- `fixed::dispatch::take_by_width` meets its contract: a number has 1, 2, 4 or 8 bytes. Assumes nothing.
+-- `widths::dispatch::take_by_width` meets its contract: a number has 1, 2, 4 or 8 bytes. Assumes nothing.
 use Rattle.bits.proofs.Numbers.{width-one}
 use borrow.Author.Needs.{needs}
-use Rattle.fixed.proofs.dispatch.take_by_width.Statement.{statement}
-use Rattle.fixed.proofs.dispatch.take_by_width.Tie as tie
+use Rattle.widths.proofs.dispatch.take_by_width.Statement.{statement}
+use Rattle.widths.proofs.dispatch.take_by_width.Tie as tie
 
 take-by-u16-requires : tie.Need-take-by-u16-requires
 take-by-u16-requires c κs = search needs

@@ -1,9 +1,9 @@
--- `fixed::dispatch::take_blocks` meets its contract: where no index has to be tested, each number names a block that is copied. Assumes nothing.
+-- `fixed::routine::take_blocks` meets its contract: where no index has to be tested, each number names a block that is copied. Assumes nothing.
 use mathlib.Core.Path.{refl, sym, _∙_}
 use Rattle.blocks.proofs.Blocks.{all-named, all-taken, no-test-below, no-test-copied}
 use borrow.Author.Needs.{needs}
-use Rattle.fixed.proofs.dispatch.take_blocks.Statement.{statement}
-use Rattle.fixed.proofs.dispatch.take_blocks.Tie as tie
+use Rattle.fixed.proofs.routine.take_blocks.Statement.{statement}
+use Rattle.fixed.proofs.routine.take_blocks.Tie as tie
 
 is-free-requires : tie.Need-is-free-requires
 is-free-requires c κs = search needs
