@@ -1,23 +1,21 @@
 // The taken values of the columns of fixed width. Those whose rows are blocks of bytes differ in what a null index copies. Where it copies, `outside`
 // says whether some number, also one under a null index, is that of no row.
-use crate::dispatch::take_blocks;
-use selection::bit::take_bits;
+use crate::routine::take_blocks;
+use bitmaps::bit::take_bits;
 use tables::table::Indices;
 ghost use mathlib.Core.Path.{_≡_};
 ghost use mathlib.Core.Bool.{true, false};
 ghost use Prim.Native.Nat.{_*_, _≤_};
 ghost use lib.ListN.{length};
-ghost use Rattle.bits.specs.Sequences.{concat};
 ghost use Rattle.bits.specs.Bytes.{overwrite};
-ghost use Rattle.bits.specs.Bits.{bytesFor, pack};
+ghost use Rattle.bits.specs.Bits.{bytesFor};
 ghost use Rattle.tables.specs.declared.table.Kind.the-variants.{FixedSizeBinary};
 ghost use Rattle.tables.specs.Kinds.{copiesUnderNull};
 ghost use Rattle.tables.specs.Columns.{indexColumnAt};
-ghost use Rattle.tables.specs.Answers.{passes};
-ghost use Rattle.tables.specs.Refusals.{indexRefusal};
-ghost use Rattle.gathers.specs.Buffers.{takenBit, someOutside, takenBlock};
-ghost use Rattle.selection.specs.Reach.{Reaches};
-ghost use Rattle.blocks.specs.Blocked.{Blocked};
+ghost use Rattle.gathers.specs.Buffers.{someOutside};
+ghost use Rattle.gathers.specs.Ready.{InRange};
+ghost use Rattle.bitmaps.specs.Reach.{HoldsBits, takenBits};
+ghost use Rattle.blocks.specs.Blocked.{Blocked, takenBlocks};
 
 // Rust's `take_native`: rows of `width` bytes; the number under a null index is read too.
 pub fn take_native(
@@ -28,11 +26,12 @@ pub fn take_native(
     index_data: &[u8],
     index_validity: &[u8],
     outside: bool,
-    out: &mut [u8],
+    out_data: &mut [u8],
 )
-    requires { ⌜ Blocked width rows (indexColumnAt indices «index_data» «index_validity») (now «data») (now out) ⌝ }
+    requires { ⌜ Blocked width rows (indexColumnAt indices «index_data» «index_validity») (now «data») (now «out_data») ⌝ }
     requires { ⌜ outside ≡ someOutside rows (indexColumnAt indices «index_data» «index_validity») ⌝ }
-    ensures { λ _. ⌜ now (out .exit) ≡ overwrite (concat (indices .count) (takenBlock true rows width (now («data» .entry)) (indexColumnAt indices («index_data» .entry) («index_validity» .entry)))) (now (out .entry)) ⌝ }
+    ensures { λ _. ⌜ now («out_data» .exit) ≡ overwrite (takenBlocks true rows width (now («data» .entry))
+        (indexColumnAt indices («index_data» .entry) («index_validity» .entry))) (now («out_data» .entry)) ⌝ }
 {
     let under_null = true;
     take_blocks(
@@ -46,7 +45,7 @@ pub fn take_native(
         index_data,
         index_validity,
         outside,
-        out,
+        out_data,
     );
 }
 
@@ -59,11 +58,12 @@ pub fn take_fixed_size_binary(
     index_data: &[u8],
     index_validity: &[u8],
     outside: bool,
-    out: &mut [u8],
+    out_data: &mut [u8],
 )
-    requires { ⌜ Blocked size rows (indexColumnAt indices «index_data» «index_validity») (now «data») (now out) ⌝ }
+    requires { ⌜ Blocked size rows (indexColumnAt indices «index_data» «index_validity») (now «data») (now «out_data») ⌝ }
     requires { ⌜ outside ≡ someOutside rows (indexColumnAt indices «index_data» «index_validity») ⌝ }
-    ensures { λ _. ⌜ now (out .exit) ≡ overwrite (concat (indices .count) (takenBlock (copiesUnderNull FixedSizeBinary size) rows size (now («data» .entry)) (indexColumnAt indices («index_data» .entry) («index_validity» .entry)))) (now (out .entry)) ⌝ }
+    ensures { λ _. ⌜ now («out_data» .exit) ≡ overwrite (takenBlocks (copiesUnderNull FixedSizeBinary size) rows size (now («data» .entry))
+        (indexColumnAt indices («index_data» .entry) («index_validity» .entry))) (now («out_data» .entry)) ⌝ }
 {
     let under_null = (size == 1) | (size == 2) | (size == 4) | (size == 8) | (size == 16);
     take_blocks(
@@ -77,7 +77,7 @@ pub fn take_fixed_size_binary(
         index_data,
         index_validity,
         outside,
-        out,
+        out_data,
     );
 }
 
@@ -90,10 +90,11 @@ pub fn take_fixed_size_list_primitive(
     indices: Indices,
     index_data: &[u8],
     index_validity: &[u8],
-    out: &mut [u8],
+    out_data: &mut [u8],
 )
-    requires { ⌜ Blocked (size * width) rows (indexColumnAt indices «index_data» «index_validity») (now «data») (now out) ⌝ }
-    ensures { λ _. ⌜ now (out .exit) ≡ overwrite (concat (indices .count) (takenBlock false rows (size * width) (now («data» .entry)) (indexColumnAt indices («index_data» .entry) («index_validity» .entry)))) (now (out .entry)) ⌝ }
+    requires { ⌜ Blocked (size * width) rows (indexColumnAt indices «index_data» «index_validity») (now «data») (now «out_data») ⌝ }
+    ensures { λ _. ⌜ now («out_data» .exit) ≡ overwrite (takenBlocks false rows (size * width) (now («data» .entry))
+        (indexColumnAt indices («index_data» .entry) («index_validity» .entry))) (now («out_data» .entry)) ⌝ }
 {
     let under_null = false;
     take_blocks(
@@ -107,7 +108,7 @@ pub fn take_fixed_size_list_primitive(
         index_data,
         index_validity,
         true,
-        out,
+        out_data,
     );
 }
 
@@ -115,15 +116,25 @@ pub fn take_fixed_size_list_primitive(
 pub fn take_boolean(
     data: &[u8],
     bit_offset: usize,
+    rows: u64,
     indices: Indices,
     index_data: &[u8],
     index_validity: &[u8],
-    out: &mut [u8],
+    out_data: &mut [u8],
 )
-    requires { ⌜ passes (indexRefusal (indexColumnAt indices «index_data» «index_validity»)) ≡ true ⌝ }
-    requires { ⌜ Reaches «bit_offset» (now «data») (indexColumnAt indices «index_data» «index_validity») ⌝ }
-    requires { ⌜ bytesFor (indices .count) ≤ length (now out) ⌝ }
-    ensures { λ _. ⌜ now (out .exit) ≡ overwrite (pack (indices .count) (takenBit (now («data» .entry)) «bit_offset» (indexColumnAt indices («index_data» .entry) («index_validity» .entry)))) (now (out .entry)) ⌝ }
+    requires { ⌜ InRange rows (indexColumnAt indices «index_data» «index_validity») ⌝ }
+    requires { ⌜ HoldsBits «bit_offset» rows (now «data») ⌝ }
+    requires { ⌜ bytesFor (indices .count) ≤ length (now «out_data») ⌝ }
+    ensures { λ _. ⌜ now («out_data» .exit) ≡ overwrite (takenBits (now («data» .entry)) «bit_offset»
+        (indexColumnAt indices («index_data» .entry) («index_validity» .entry))) (now («out_data» .entry)) ⌝ }
 {
-    take_bits(data, bit_offset, indices, index_data, index_validity, out);
+    take_bits(
+        data,
+        bit_offset,
+        rows,
+        indices,
+        index_data,
+        index_validity,
+        out_data,
+    );
 }

@@ -1,0 +1,38 @@
+-- What a gather of bits asks of its source and of the numbers that it reads, and what it makes of a byte.
+use Prim.Native.Nat.{ℕ, _+_, _*_, _/_, _%_, _^_, _≤_, _<_}
+use mathlib.Core.Path.{_≡_}
+use mathlib.Core.Bool.{Bool, true, _&&_}
+use mathlib.Core.List.{List}
+use lib.Dec.{eqb}
+use lib.ListN.{length}
+use Rattle.bits.specs.Numbers.{numberAt, isNumberWidth}
+use Rattle.bits.specs.Bits.{bitAt, bytesFor, pack}
+use Rattle.tables.specs.Columns.{IndexColumn}
+use Rattle.tables.specs.Refusals.{maxRows, maxBytes}
+use Rattle.gathers.specs.Buffers.{takenBit}
+
+-- the bits of so many rows, from bit offset b on, are in s
+pub record HoldsBits (b rows : ℕ) (s : List ℕ) : Type 0 where
+  pub small : length s ≤ maxBytes
+  pub there : bytesFor (b + rows) ≤ length s
+
+-- the output bits, spare bits 0
+abbrev pub takenBits : List ℕ → ℕ → IndexColumn → List ℕ
+takenBits s b x = pack (x .indices .count) (takenBit s b x)
+
+-- bit t of a byte
+abbrev pub bitIn : ℕ → ℕ → Bool
+bitIn y t = eqb (y / 2 ^ t % 2) 1
+
+-- bit t of the output byte whose first index is index p: where bit t of valid is set, that of the row which number p + t, of w bytes, names
+abbrev pub byteBit : ℕ → ℕ → List ℕ → List ℕ → ℕ → ℕ → ℕ → Bool
+byteBit b w numbers s valid p t = bitIn valid t && bitAt s (b + numberAt w numbers (p + t))
+
+-- n numbers from number p on are there; and so is the first row's bit, and that of each row which one of them names where valid has its bit set
+pub record Reaches (b w : ℕ) (numbers s : List ℕ) (valid p n : ℕ) : Type 0 where
+  pub width : isNumberWidth w ≡ true
+  pub numbered : (p + n) * w ≤ length numbers
+  pub few : (0 < n) × (n ≤ 8) × (p + n ≤ maxRows)
+  pub small : length s ≤ maxBytes
+  pub some : b < 8 * length s
+  pub inside : (t : ℕ) → t < n → bitIn valid t ≡ true → b + numberAt w numbers (p + t) < 8 * length s
