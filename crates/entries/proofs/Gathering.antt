@@ -2,9 +2,10 @@
 use mathlib.Core.Path.{_≡_, sym, ap, _∙_, subst}
 use mathlib.Core.Bool.{Bool, true, false, false≢true}
 use mathlib.Core.List.{List}
-use Prim.Native.Nat.{ℕ, _≤_}
+use Prim.Native.Nat.{ℕ, _*_, _≤_}
 use lib.ListN.{length}
 use Rattle.bits.specs.Bytes.{overwrite}
+use Rattle.bits.specs.Numbers.{isNumberWidth}
 use Rattle.tables.specs.declared.refusal.Answer.{Answer}
 use Rattle.tables.specs.declared.refusal.Checked.{Checked}
 use Rattle.tables.specs.declared.refusal.Checked.the-variants.{Fit, Unfit}
@@ -28,6 +29,7 @@ use Rattle.entries.specs.declared.check.Tested.{Tested}
 use Rattle.entries.specs.Entry.{Gathers}
 use Rattle.entries.specs.Tested.{stoppedAt, Told}
 use Rattle.stages.proofs.Spaces.{rows-layout}
+use Rattle.tables.proofs.Facts.{index-formed}
 use Rattle.tables.proofs.Stages.{refusing, form-passed}
 use Rattle.gathers.proofs.Stages.{Passed as AllPassed, all-passed, stops-form, stops-range, stops-overflow, ends-space, gather-refused, gather-stored, enough, measured-refused, measured-total, stored-by, gathered-by}
 use Rattle.gathers.proofs.Blanked.{gather-blank}
@@ -62,6 +64,12 @@ module _ (c : Column) (x : IndexColumn) where
 
     pub indices-passed : passes (indexRefusal x) ≡ true
     indices-passed = form-passed c x form .1
+
+    -- the numbers of the indices are there
+    pub numbers-there : (isNumberWidth (x .indices .width) ≡ true) × (x .indices .count * x .indices .width ≤ length (x .«data»))
+    numbers-there =
+        let f = index-formed x indices-passed in
+        (f .width, f .dataFit)
 
     pub range-refused : (o : Output) {t : Checked} {r : Refusal} {p : Tested} → checkedNumbers t ≡ rangeRefusal (c .table .rows) x → t ≡ Unfit r → p ≡ stoppedAt t
         → Answers o p

@@ -1,8 +1,8 @@
 // The tests of a gather: refusals 1 to 7, in the paper's order, before any output byte is written. They stand in a function of their own, so that
 // the compiler takes the writing after them for what a call is there for, and not for something that it seldom comes to.
 use checks::columns::check_columns;
-use selection::bounds::check_bounds;
-use selection::bounds::some_outside;
+use range::bounds::check_bounds;
+use range::outside::some_outside;
 use stages::measure::measure;
 use stages::space::check_space;
 use stages::space::needed_lengths;
@@ -70,7 +70,7 @@ pub fn check(
     let Checked::Fit = formed else {
         return stopped(formed);
     };
-    let outside = some_outside(table.rows, indices, index_data, index_validity);
+    let outside = some_outside(table.rows, indices.width, indices.count, index_data);
     let ranged = check_bounds(table.rows, indices, index_data, index_validity, outside);
     let Checked::Fit = ranged else {
         return stopped(ranged);

@@ -2,7 +2,7 @@
 // then no output byte changes; or gathered. Any numbers, any buffers and any lent outputs may be handed in.
 use crate::answer::Answered;
 use crate::check::check;
-use selection::null::take_nulls;
+use nulls::null::take_nulls;
 use stages::values::take_values;
 use tables::refusal::Checked;
 use tables::table::Indices;
@@ -47,6 +47,7 @@ pub fn take(
         let nulls = take_nulls(
             validity,
             table.validity_bit as usize,
+            table.rows,
             indices,
             index_data,
             index_validity,

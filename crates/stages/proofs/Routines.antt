@@ -1,10 +1,9 @@
 -- What a column and an index column that passed refusals 1 to 5 give to the routine of each kind, and what the routine then has written. Assumes nothing.
 use mathlib.Core.Path.{_≡_, sym, _∙_}
-use mathlib.Core.Bool.{Bool, true, false, not, _&&_, true≢false}
+use mathlib.Core.Bool.{Bool, false, not, _&&_, true≢false}
 use mathlib.Core.List.{List}
-use Prim.Native.Nat.{ℕ, _+_, _*_, _≤_, _<_}
+use Prim.Native.Nat.{ℕ, _+_, _*_, _≤_}
 use native.Mathlib.Nat.{mul-le-mul}
-use native.Mathlib.Omega.{arith}
 use lib.Dec.{ltb}
 use lib.ListN.{length}
 use borrow.Author.Tests.{ltb-false}
@@ -15,7 +14,7 @@ use Rattle.tables.specs.declared.table.Kind.{Kind}
 use Rattle.tables.specs.declared.table.Kind.the-variants.{Unknown}
 use Rattle.tables.specs.declared.table.Layout.the-variants.{FixedWidth, BitMap, VariableWidth}
 use Rattle.tables.specs.Kinds.{kindOf, layoutOf, copiesUnderNull}
-use Rattle.tables.specs.Columns.{Column, IndexColumn, kindAt, layoutAt, indexValid, index}
+use Rattle.tables.specs.Columns.{Column, IndexColumn, kindAt, layoutAt}
 use Rattle.tables.specs.Refusals.{maxRows, maxBytes, maxBit, WellFormed}
 use Rattle.tables.specs.Bounds.{maxBlock, RowFits, Bounds}
 use Rattle.tables.specs.Rows.{Rows, rowsOf}
@@ -23,15 +22,14 @@ use Rattle.gathers.specs.Taken.{takeRows}
 use Rattle.gathers.specs.Stored.{validityBytes, offsetBytes, dataBytes, dataLength, nullCount, storeOffsets}
 use Rattle.gathers.specs.Ready.{Ready}
 use Rattle.gathers.specs.Buffers.{takenBit, takenBitValid, takenBlock}
-use Rattle.selection.specs.Reach.{Reaches}
+use Rattle.bitmaps.specs.Reach.{HoldsBits}
 use Rattle.blocks.specs.Blocked.{Blocked}
 use Rattle.bits.proofs.Tests.{or-false}
 use Rattle.tables.proofs.Bounds.{fits-at}
 use Rattle.tables.proofs.Facts.{Formed, formed, IndexFormed, index-formed}
 use Rattle.tables.proofs.Stages.{sized-row-fits, sized-bounds, well-formed-sized}
-use Rattle.tables.proofs.There.{row-valid-there}
 use Rattle.tables.proofs.Views.{kindAt-number, layoutAt-kind}
-use Rattle.gathers.proofs.Buffers.{valid-below, validity-by-buffer, nulls-by-buffer, blocks-by-buffer, bits-by-buffer}
+use Rattle.gathers.proofs.Buffers.{validity-by-buffer, nulls-by-buffer, blocks-by-buffer, bits-by-buffer}
 use Rattle.gathers.proofs.Lengths.{blocks-length, bits-length, offsets-of-blocks, offsets-of-bits, offsets-of-variable}
 
 -- the kind and the layout, as the code finds them
@@ -75,17 +73,14 @@ module _ (c : Column) (x : IndexColumn) (r : Ready c x) where
   abbrev facts : Formed (kindAt c) (layoutAt c) c
   facts = formed c (r .column)
 
-  below : (j : ℕ) → j < x .indices .count → indexValid x j ≡ true → index x j < c .table .rows
-  below = valid-below (c .table .rows) x (r .indices)
-
   -- ---- validity
 
-  pub validity-reached : isAbsent (c .validity) ≡ false → Reaches (c .table .«validity_bit») (c .validity) x
-  validity-reached present = record {
+  pub validity-held : isAbsent (c .validity) ≡ false → HoldsBits (c .table .«validity_bit») (c .table .rows) (c .validity)
+  validity-held present = record {
     small =
         ltb-false maxBytes (length (c .validity))
         (or-false (ltb maxBytes (length (c .validity))) (not (isAbsent (c .validity)) && ltb maxBit (c .table .«validity_bit»)) (facts .validityLimit) .0);
-    inside = λ j h e. row-valid-there c facts (index x j) (below j h e) present .0;
+    there = ltb-false (length (c .validity)) (bytesFor (c .table .«validity_bit» + c .table .rows)) (rw present at (facts .validityFits));
   }
 
   pub validity-stored : (s : List ℕ) {t : List ℕ} → t ≡ overwrite (pack (x .indices .count) (takenBitValid (c .validity) (c .table .«validity_bit») x)) s
@@ -117,11 +112,11 @@ module _ (c : Column) (x : IndexColumn) (r : Ready c x) where
   -- ---- bits
 
   module _ (e : layoutAt c ≡ BitMap) where
-    pub data-reached : Reaches (c .table .«data_bit») (c .«data») x
-    data-reached =
-        let fits : bytesFor (c .table .«data_bit» + c .table .rows) ≤ length (c .«data») =
-        ltb-false (length (c .«data»)) (bytesFor (c .table .«data_bit» + c .table .rows)) (rw e at (facts .dataFit)) in
-        record { small = facts .«data»; inside = λ j h i. let l : index x j < c .table .rows = below j h i in omega arith }
+    pub data-held : HoldsBits (c .table .«data_bit») (c .table .rows) (c .«data»)
+    data-held = record {
+      small = facts .«data»;
+      there = ltb-false (length (c .«data»)) (bytesFor (c .table .«data_bit» + c .table .rows)) (rw e at (facts .dataFit));
+    }
 
     pub bits-room : {room : ℕ} → dataLength (layoutAt c) v ≤ room → bytesFor (x .indices .count) ≤ room
     bits-room room = rw (bits-length c x e) at room

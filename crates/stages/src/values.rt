@@ -63,6 +63,7 @@ pub fn take_values(
             take_boolean(
                 data,
                 table.data_bit as usize,
+                table.rows,
                 indices,
                 index_data,
                 index_validity,

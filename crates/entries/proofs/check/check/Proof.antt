@@ -1,5 +1,6 @@
 -- `entries::check::check` meets its contract: each return by the stage that led to it. Assumes nothing.
-use Rattle.entries.proofs.Gathering.{form-refused, indices-passed, range-refused, tested, overflow-refused, needs-total, all-tested}
+use Rattle.entries.proofs.Gathering.{form-refused, indices-passed, numbers-there, range-refused, tested, overflow-refused, needs-total, all-tested}
+use Rattle.range.proofs.Numbers.{outside-read}
 use Rattle.stages.proofs.Routines.{ready-count}
 use Rattle.stages.proofs.Spaces.{rows-fit, bounds-told, space-checked}
 use borrow.Author.Needs.{needs}
@@ -22,12 +23,12 @@ returns : tie.Need-returns
 returns c = form-refused _ _ _ (c .before .before .before .check-columns .ensures) (c .before .enum-told2 .given .1) (c .stopped .ensures)
 
 some-outside-requires : tie.Need-some-outside-requires
-some-outside-requires c κs = indices-passed _ _ (c .before .before .check-columns .ensures) (c .enum-told .given .1)
+some-outside-requires c κs = numbers-there _ _ (c .before .before .check-columns .ensures) (c .enum-told .given .1)
 
 check-bounds-requires : tie.Need-check-bounds-requires
 check-bounds-requires c κs =
     let t₁ = c .before in
-    (indices-passed _ _ (t₁ .before .before .check-columns .ensures) (t₁ .enum-told .given .1), c .some-outside .ensures)
+    (indices-passed _ _ (t₁ .before .before .check-columns .ensures) (t₁ .enum-told .given .1), outside-read _ _ (c .some-outside .ensures))
 
 enum-told-3 : tie.Need-enum-told-3
 enum-told-3 c = search needs
@@ -86,7 +87,7 @@ returns-4 c =
     (m .measure .ensures) (t₃ .enum-told5 .given .1) in
     let w = space-checked _ _ _ (c .check-space .ensures) (c .before .needed-lengths .ensures) n in
     all-tested _ _ (t₁ .before .before .check-columns .ensures) (t₁ .enum-told .given .1) (t₂ .before .before .check-bounds .ensures) (t₂ .enum-told3 .given .1) (m .measure .result)
-    (m .measure .ensures) (t₃ .enum-told5 .given .1) _ w (t₂ .before .before .before .some-outside .ensures)
+    (m .measure .ensures) (t₃ .enum-told5 .given .1) _ w (outside-read _ _ (t₂ .before .before .before .some-outside .ensures))
 
 pub check-spec : {M : Type 1} → statement M
 check-spec =

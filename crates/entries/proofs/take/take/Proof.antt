@@ -2,7 +2,7 @@
 use Rattle.entries.specs.Entry.{outputAt}
 use Rattle.entries.proofs.Gathering.{both, turned-away, ready, outside-told, overflow-passed, validity-room, data-room, all-stored}
 use Rattle.gathers.proofs.Buffers.{validates}
-use Rattle.stages.proofs.Routines.{validity-reached, validity-stored, nulls-counted}
+use Rattle.stages.proofs.Routines.{validity-held, validity-stored, nulls-counted}
 use borrow.Author.Needs.{needs}
 use Rattle.entries.proofs.take.take.Statement.{statement}
 use Rattle.entries.proofs.take.take.Tie as tie
@@ -24,7 +24,7 @@ take-nulls-requires c κs =
     let a = t .before .before .before .before .before .before .before .before .before .before .before .before .before .before .args in
     let o = outputAt (a .out-validity) (a .out-offsets) (a .out-data) in
     let r = ready _ _ o e f in
-    (r .indices .passed, (validity-reached _ _ r, validity-room _ _ o e f))
+    (r .indices, (validity-held _ _ r, validity-room _ _ o e f))
 
 take-values-requires : tie.Need-take-values-requires
 take-values-requires c κs =

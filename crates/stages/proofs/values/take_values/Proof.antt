@@ -1,7 +1,7 @@
 -- `stages::«data»::take_values` meets its contract: each arm by the kind that led to it. Assumes nothing.
 use mathlib.Core.Bool.{true, false}
 use borrow.Author.Needs.{needs}
-use Rattle.stages.proofs.Routines.{kind-told, layout-by, under-null-by, known, blocked, blocks-stored, blocks-keep, data-reached, bits-room, bits-stored, bits-keep, variable-stored}
+use Rattle.stages.proofs.Routines.{kind-told, layout-by, under-null-by, known, blocked, blocks-stored, blocks-keep, data-held, bits-room, bits-stored, bits-keep, variable-stored}
 use Rattle.stages.proofs.values.take_values.Statement.{statement}
 use Rattle.stages.proofs.values.take_values.Tie as tie
 
@@ -26,7 +26,7 @@ take-boolean-requires c κs =
     let k = c .before .before .before in
     let p = k .before .before .before .before .before .before .before .before .before .pre in
     let e = layout-by _ (kind-told _ (k .kind-of .ensures) (c .before .enum-told2 .given .1)) in
-    (p .0 .indices .passed, (data-reached _ _ (p .0) e, bits-room _ _ (p .0) e (p .1 .0 .1)))
+    (p .0 .indices, (data-held _ _ (p .0) e, bits-room _ _ (p .0) e (p .1 .0 .1)))
 
 enum-told-3 : tie.Need-enum-told-3
 enum-told-3 c = search needs
