@@ -15,7 +15,7 @@ use Rattle.bits.specs.Bits.{bitValue, bitAt, byteOf, pack, isAbsent, validAt}
 use Rattle.tables.specs.Columns.{IndexColumn, indexValid, index}
 use Rattle.gathers.specs.Buffers.{takenBit}
 use Rattle.gathers.specs.Ready.{InRange}
-use Rattle.bitmaps.specs.Reach.{HoldsBits, bitIn, byteBit, Reaches}
+use Rattle.bitmaps.specs.Reach.{HoldsBits, Reached, bitIn, byteBit, Reaches}
 use Rattle.bits.proofs.Tests.{and-true}
 use Rattle.bits.proofs.Bytes.{block-inside}
 use Rattle.bits.proofs.Bits.{bitValue-lt, bit-test, bit-value, byteOf-bit, byteOf-cong, pack-cong, validAt-absent, validAt-present}
@@ -99,7 +99,7 @@ module _ (v : List ℕ) (b p n : ℕ) where
 
 module _ (s : List ℕ) (b rows : ℕ) (x : IndexColumn) (i : InRange rows x) where
   -- where there is an index there is a row, save where a validity says that no index is valid
-  pub rows-there : (eqb rows 0 && not (isAbsent (x .validity))) ≡ false → 0 < x .indices .count → 0 < rows
+  rows-there : (eqb rows 0 && not (isAbsent (x .validity))) ≡ false → 0 < x .indices .count → 0 < rows
   rows-there = go (isAbsent (x .validity)) refl (eqb rows 0) refl
     where
       go : (a : Bool) → isAbsent (x .validity) ≡ a → (t : Bool) → eqb rows 0 ≡ t → (t && not a) ≡ false → 0 < x .indices .count → 0 < rows
@@ -109,6 +109,14 @@ module _ (s : List ℕ) (b rows : ℕ) (x : IndexColumn) (i : InRange rows x) wh
           let valid : indexValid x 0 ≡ true =
           index-valid x 0 ∙ validAt-absent (x .validity) (x .indices .«validity_bit») 0 (eqb-true (length (x .validity)) 0 d) in
           omega (arith, valid-below rows x i 0 h valid)
+
+  pub reached : HoldsBits b rows s → (eqb rows 0 && not (isAbsent (x .validity))) ≡ false → Reached b s x
+  reached held e = record {
+    passed = i .passed;
+    small = held .small;
+    some = λ h. omega (arith, held .there, rows-there e h);
+    inside = λ j h d. omega (arith, held .there, valid-below rows x i j h d);
+  }
 
   -- of no rows none is valid, and the output is the validity of the indices
   pub no-rows : rows ≡ 0 → (length (x .validity) ≡ 0 → ⊥)
@@ -124,29 +132,32 @@ module _ (s : List ℕ) (b rows : ℕ) (x : IndexColumn) (i : InRange rows x) wh
           go true d = absurd (omega (arith, valid-below rows x i j h d))
           go false d = refl
 
-  -- the validity of the n indices from index p on is there, if any is lent
-  pub valid-there : (p n : ℕ) → p + n ≤ x .indices .count → 0 < n → isAbsent (x .validity) ≡ false
+-- ---- the n indices from index p on
+
+module _ (s : List ℕ) (b : ℕ) (x : IndexColumn) (r : Reached b s x) (p n : ℕ) where
+  -- their validity is there, if any is lent
+  pub valid-there : p + n ≤ x .indices .count → 0 < n → isAbsent (x .validity) ≡ false
       → (x .indices .«validity_bit» + p + n ≤ 8 * length (x .validity)) × (x .indices .«validity_bit» + p < 2 ^ 64)
-  valid-there p n h some e =
-      let f = index-formed x (i .passed) in
+  valid-there h some e =
+      let f = index-formed x (r .passed) in
       (omega (arith, valid-bits-there (x .validity) (x .indices .«validity_bit») (x .indices .count) (f .validityFits) e), index-valid-there x f p (omega arith) e .1)
 
-  -- the n indices from index p on, by the byte of their validity
-  module _ (p n valid : ℕ) (v : (t : ℕ) → t < n → bitIn valid t ≡ validAt (x .validity) (x .indices .«validity_bit») (p + t)) where
-    pub byte-reached : HoldsBits b rows s → 0 < rows → p + n ≤ x .indices .count → (0 < n) × (n ≤ 8) → Reaches b (x .indices .width) (x .«data») s valid p n
-    byte-reached held some h few =
-        let f = index-formed x (i .passed) in
+  -- by the byte of it
+  module _ (valid : ℕ) (v : (t : ℕ) → t < n → bitIn valid t ≡ validAt (x .validity) (x .indices .«validity_bit») (p + t)) where
+    pub byte-reached : p + n ≤ x .indices .count → (0 < n) × (n ≤ 8) → Reaches b (x .indices .width) (x .«data») s valid p n
+    byte-reached h few =
+        let f = index-formed x (r .passed) in
         let bytes : (p + n) * x .indices .width ≤ x .indices .count * x .indices .width = mul-le-mul-right (x .indices .width) h in
         record {
           width = f .width;
           numbered = omega (arith, f .dataFit);
           few = (few .0, few .1, omega (arith, f .count));
-          small = held .small;
-          some = omega (arith, held .there);
-          inside = λ t l e. rw (← index-number x (p + t)) (omega (arith, held .there, valid-below rows x i (p + t) (omega arith) (index-valid x (p + t) ∙ sym (v t l) ∙ e)));
+          small = r .small;
+          some = r .some (omega arith);
+          inside = λ t l e. rw (← index-number x (p + t)) (r .inside (p + t) (omega arith) (index-valid x (p + t) ∙ sym (v t l) ∙ e));
         }
 
-    pub byte-taken : {r : ℕ} → r ≡ byteOf (λ t. ltb t n && byteBit b (x .indices .width) (x .«data») s valid p t) → r ≡ byteOf (λ t. ltb t n && takenBit s b x (p + t))
+    pub byte-taken : {y : ℕ} → y ≡ byteOf (λ t. ltb t n && byteBit b (x .indices .width) (x .«data») s valid p t) → y ≡ byteOf (λ t. ltb t n && takenBit s b x (p + t))
     byte-taken e = e ∙ byteOf-cong (λ t l. go t (ltb t n) refl)
       where
         bit : (t : ℕ) (z : Bool) → indexValid x (p + t) ≡ z → (z && bitAt s (b + index x (p + t))) ≡ takenBit s b x (p + t)

@@ -7,8 +7,9 @@ use lib.Dec.{eqb}
 use lib.ListN.{length}
 use Rattle.bits.specs.Numbers.{numberAt, isNumberWidth}
 use Rattle.bits.specs.Bits.{bitAt, bytesFor, pack}
-use Rattle.tables.specs.Columns.{IndexColumn}
-use Rattle.tables.specs.Refusals.{maxRows, maxBytes}
+use Rattle.tables.specs.Columns.{IndexColumn, indexValid, index}
+use Rattle.tables.specs.Answers.{passes}
+use Rattle.tables.specs.Refusals.{maxRows, maxBytes, indexRefusal}
 use Rattle.gathers.specs.Buffers.{takenBit}
 
 -- the bits of so many rows, from bit offset b on, are in s
@@ -19,6 +20,13 @@ pub record HoldsBits (b rows : ℕ) (s : List ℕ) : Type 0 where
 -- the output bits, spare bits 0
 abbrev pub takenBits : List ℕ → ℕ → IndexColumn → List ℕ
 takenBits s b x = pack (x .indices .count) (takenBit s b x)
+
+-- an index column that no test of its own refuses; s has the first row's bit, if there is an index, and that of each row which a valid index names
+pub record Reached (b : ℕ) (s : List ℕ) (x : IndexColumn) : Type 0 where
+  pub passed : passes (indexRefusal x) ≡ true
+  pub small : length s ≤ maxBytes
+  pub some : 0 < x .indices .count → b < 8 * length s
+  pub inside : (j : ℕ) → j < x .indices .count → indexValid x j ≡ true → b + index x j < 8 * length s
 
 -- bit t of a byte
 abbrev pub bitIn : ℕ → ℕ → Bool

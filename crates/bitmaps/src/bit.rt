@@ -14,7 +14,7 @@ ghost use Rattle.bits.specs.Bits.{bitValue, bytesFor, byteOf, isAbsent, validAt
 ghost use Rattle.bits.specs.Bytes.{overwrite};
 ghost use Rattle.tables.specs.Columns.{indexColumnAt};
 ghost use Rattle.gathers.specs.Ready.{InRange};
-ghost use Rattle.bitmaps.specs.Reach.{bitIn, byteBit, Reaches, HoldsBits, takenBits};
+ghost use Rattle.bitmaps.specs.Reach.{HoldsBits, takenBits, Reached, bitIn, byteBit, Reaches};
 
 // Bit t of the output byte whose first index is index p, in its place: Rust's `pack_bit`. Under a null index the first row's bit is read.
 fn take_bit(
@@ -69,28 +69,22 @@ fn valid_byte(index_validity: &[u8], bit_offset: usize, p: usize, n: usize) -> u
     bits_at(index_validity, bit_offset + p, n)
 }
 
-// Writes the bits of src, of so many rows from bit_offset on, that the indices name: whole bytes, then the bits that are left.
-pub fn take_bits(
+// Writes the bits of src, from bit_offset on, that the indices name: whole bytes, then the bits that are left. A function of its own, so that the
+// compiler makes its loops for indices with and without validity.
+fn take_reached(
     src: &[u8],
     bit_offset: usize,
-    rows: u64,
     indices: Indices,
     index_data: &[u8],
     index_validity: &[u8],
     out: &mut [u8],
 )
-    requires { ⌜ InRange rows (indexColumnAt indices «index_data» «index_validity») ⌝ }
-    requires { ⌜ HoldsBits «bit_offset» rows (now src) ⌝ }
+    requires { ⌜ Reached «bit_offset» (now src) (indexColumnAt indices «index_data» «index_validity») ⌝ }
     requires { ⌜ bytesFor (indices .count) ≤ length (now out) ⌝ }
     ensures { λ _. ⌜ now (out .exit) ≡ overwrite (takenBits (now (src .entry)) «bit_offset» (indexColumnAt indices («index_data» .entry) («index_validity» .entry))) (now (out .entry)) ⌝ }
 {
     let count = indices.count as usize;
     let validity_bit = indices.validity_bit as usize;
-    // no index is valid, for there is no row: their validity is all zeros, as the output is
-    if (rows == 0) & (index_validity.len() != 0) {
-        pack_bits(index_validity, validity_bit, count, out);
-        return;
-    }
     let w = indices.width as usize;
     let whole = count / 8;
     let mut k = 0;
@@ -105,4 +99,32 @@ pub fn take_bits(
     }
     let valid = valid_byte(index_validity, validity_bit, 8 * k, rest);
     out[k] = take_byte(src, bit_offset, w, index_data, valid, 8 * k, rest);
+}
+
+// Writes the bits of src, of so many rows from bit_offset on, that the indices name.
+pub fn take_bits(
+    src: &[u8],
+    bit_offset: usize,
+    rows: u64,
+    indices: Indices,
+    index_data: &[u8],
+    index_validity: &[u8],
+    out: &mut [u8],
+)
+    requires { ⌜ InRange rows (indexColumnAt indices «index_data» «index_validity») ⌝ }
+    requires { ⌜ HoldsBits «bit_offset» rows (now src) ⌝ }
+    requires { ⌜ bytesFor (indices .count) ≤ length (now out) ⌝ }
+    ensures { λ _. ⌜ now (out .exit) ≡ overwrite (takenBits (now (src .entry)) «bit_offset» (indexColumnAt indices («index_data» .entry) («index_validity» .entry))) (now (out .entry)) ⌝ }
+{
+    // no index is valid, for there is no row: their validity is all zeros, as the output is
+    if (rows == 0) & (index_validity.len() != 0) {
+        pack_bits(
+            index_validity,
+            indices.validity_bit as usize,
+            indices.count as usize,
+            out,
+        );
+        return;
+    }
+    take_reached(src, bit_offset, indices, index_data, index_validity, out);
 }
