@@ -102,3 +102,14 @@ module _ {w : ℕ} {offsets : List ℕ} {valid : Bool} {n : ℕ} (q : EntriesThe
 
   pub shown-there : {m : ℕ} → m ≡ n → TakenThere w offsets valid n (record { row = m * v; valid = v })
   shown-there d = taken-there q (masked valid n e (ap (λ (k : ℕ). k * v) d))
+
+-- ---- the entries, by whether the output row is valid
+
+module _ (w : ℕ) (offsets : List ℕ) (n : ℕ) {valid : Bool} where
+  pub entriesAt-valid : valid ≡ true → entriesAt w offsets valid n ≡ numberAt w offsets (suc n) - numberAt w offsets n
+  unfolding entriesAt
+  entriesAt-valid e = rw e
+
+  pub entriesAt-null : valid ≡ false → entriesAt w offsets valid n ≡ 0
+  unfolding entriesAt
+  entriesAt-null e = rw e

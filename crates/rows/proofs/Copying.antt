@@ -27,6 +27,16 @@ use Rattle.rows.proofs.Fronts.{front-first, front-long, written-front, 
 abbrev pub sourcesOf : ℕ → ℕ → ℕ → List ℕ → List ℕ → List ℕ → List ℕ → Sources
 sourcesOf u ow w d o x s = record { unit = u; offsetWidth = ow; indexWidth = w; «data» = d; offsets = o; indexData = x; outOffsets = s }
 
+-- ---- a row's bytes
+
+pub rowBytes-part : (b : Sources) (j : ℕ) → rowBytes b j ≡ part (rowFrom b j) (rowLength b j) (b .«data»)
+unfolding rowBytes
+rowBytes-part b j = refl
+
+pub rowBytes-empty : (b : Sources) (j : ℕ) → rowAt b (j + 1) ≡ rowAt b j → rowBytes b j ≡ []
+unfolding rowBytes
+rowBytes-empty b j e = let z : rowLength b j ≡ 0 = omega (arith, e) in ap (λ (n : ℕ). part (rowFrom b j) n (b .«data»)) z
+
 -- ---- one row
 
 -- its offset is there
@@ -97,17 +107,13 @@ at-skip b j (suc t) h =
     let e : j + suc t ≡ j + t + 1 = omega arith in
     ap (rowAt b) e ∙ h t (omega arith) ∙ at-skip b j t (λ i l. h i (omega arith))
 
-empty-bytes : (b : Sources) (j : ℕ) → rowAt b (j + 1) ≡ rowAt b j → rowBytes b j ≡ []
-unfolding rowBytes
-empty-bytes b j e = let z : rowLength b j ≡ 0 = omega (arith, e) in ap (λ (n : ℕ). part (rowFrom b j) n (b .«data»)) z
-
 module _ {b : Sources} {valid : List ℕ} {needed used count : ℕ} (q : CopyReady b valid needed used count) where
   -- null rows have no bytes
   pub copied-nulls : {o₀ o : List ℕ} (j t : ℕ) → j + t ≤ count → ((i : ℕ) → i < t → bitAt valid (j + i) ≡ false) → RowsCopied b used o₀ o j → RowsCopied b used o₀ o (j + t)
   copied-nulls {o = o} j t h n i =
       let none : (k : ℕ) → k < t → rowAt b (j + k + 1) ≡ rowAt b (j + k) = λ k l. q .empty (j + k) (omega arith) (n k l) in
       record {
-        front = ap (λ (m : ℕ). take m o) (at-skip b j t none) ∙ i .front ∙ sym (concat-skip j t (rowBytes b) (λ k l. empty-bytes b (j + k) (none k l)));
+        front = ap (λ (m : ℕ). take m o) (at-skip b j t none) ∙ i .front ∙ sym (concat-skip j t (rowBytes b) (λ k l. rowBytes-empty b (j + k) (none k l)));
         rest = i .rest;
         long = i .long;
       }
