@@ -12,14 +12,14 @@ use Rattle.bits.specs.Bytes.{overwrite}
 use Rattle.bits.specs.Bits.{bitValue, bytesFor, pack, isAbsent}
 use Rattle.tables.specs.declared.table.Kind.{Kind}
 use Rattle.tables.specs.declared.table.Kind.the-variants.{Unknown}
-use Rattle.tables.specs.declared.table.Layout.the-variants.{FixedWidth, BitMap, VariableWidth}
+use Rattle.tables.specs.declared.table.Layout.the-variants.{FixedWidth, BitMap}
 use Rattle.tables.specs.Kinds.{kindOf, layoutOf, copiesUnderNull}
 use Rattle.tables.specs.Columns.{Column, IndexColumn, kindAt, layoutAt}
 use Rattle.tables.specs.Refusals.{maxRows, maxBytes, maxBit, WellFormed}
 use Rattle.tables.specs.Bounds.{maxBlock, RowFits, Bounds}
 use Rattle.tables.specs.Rows.{Rows, rowsOf}
 use Rattle.gathers.specs.Taken.{takeRows}
-use Rattle.gathers.specs.Stored.{validityBytes, offsetBytes, dataBytes, dataLength, nullCount, storeOffsets}
+use Rattle.gathers.specs.Stored.{validityBytes, dataBytes, dataLength, nullCount, storeOffsets}
 use Rattle.gathers.specs.Ready.{Ready}
 use Rattle.gathers.specs.Buffers.{takenBit, takenBitValid, takenBlock}
 use Rattle.bitmaps.specs.Reach.{HoldsBits}
@@ -30,7 +30,7 @@ use Rattle.tables.proofs.Facts.{Formed, formed, IndexFormed, index-formed}
 use Rattle.tables.proofs.Stages.{sized-row-fits, sized-bounds, well-formed-sized}
 use Rattle.tables.proofs.Views.{kindAt-number, layoutAt-kind}
 use Rattle.gathers.proofs.Buffers.{validity-by-buffer, nulls-by-buffer, blocks-by-buffer, bits-by-buffer}
-use Rattle.gathers.proofs.Lengths.{blocks-length, bits-length, offsets-of-blocks, offsets-of-bits, offsets-of-variable}
+use Rattle.gathers.proofs.Lengths.{blocks-length, bits-length, offsets-of-blocks, offsets-of-bits}
 
 -- the kind and the layout, as the code finds them
 module _ (c : Column) where
@@ -127,8 +127,3 @@ module _ (c : Column) (x : IndexColumn) (r : Ready c x) where
 
     pub bits-keep : (s : List ℕ) → s ≡ storeOffsets (layoutAt c) v s
     bits-keep s = sym (offsets-of-bits c x s e)
-
-  -- ---- variable width
-
-  pub variable-stored : (u : ℕ) (s : List ℕ) {t : List ℕ} → layoutAt c ≡ VariableWidth u → t ≡ overwrite (offsetBytes v) s → t ≡ storeOffsets (layoutAt c) v s
-  variable-stored u s e h = h ∙ sym (offsets-of-variable c x u s e)

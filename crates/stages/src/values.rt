@@ -1,5 +1,5 @@
 // The offsets and the data of the taken rows, by the kind. What a kind does not write is kept. `outside` says whether some number of the indices is that
-// of no row, and `valid` begins with the validity of the taken rows, which is written before.
+// of no row, and `out_validity` begins with the validity of the taken rows, which is written before.
 use fixed::take::take_boolean;
 use fixed::take::take_fixed_size_binary;
 use fixed::take::take_fixed_size_list_primitive;
@@ -24,7 +24,7 @@ pub fn take_values(
     index_data: &[u8],
     index_validity: &[u8],
     outside: bool,
-    valid: &[u8],
+    out_validity: &[u8],
     out_offsets: &mut [u8],
     out_data: &mut [u8],
 )
@@ -32,7 +32,7 @@ pub fn take_values(
     requires { ⌜ HasRoom (columnAt table «data» offsets validity) (indexColumnAt indices «index_data» «index_validity») (now «out_offsets») (now «out_data») ⌝ }
     requires { ⌜ outside ≡ someOutside (table .rows) (indexColumnAt indices «index_data» «index_validity») ⌝ }
     requires { ⌜ NoOverflow (columnAt table «data» offsets validity) (indexColumnAt indices «index_data» «index_validity») ⌝ }
-    requires { ⌜ Validates (now validity) (table .«validity_bit») (indexColumnAt indices «index_data» «index_validity») (now valid) ⌝ }
+    requires { ⌜ Validates (now validity) (table .«validity_bit») (indexColumnAt indices «index_data» «index_validity») (now «out_validity») ⌝ }
     ensures { λ _. ⌜ now («out_offsets» .exit) ≡ storedOffsets
         (columnAt table («data» .entry) (offsets .entry) (validity .entry))
         (indexColumnAt indices («index_data» .entry) («index_validity» .entry))
@@ -78,7 +78,7 @@ pub fn take_values(
             indices,
             index_data,
             index_validity,
-            valid,
+            out_validity,
             out_offsets,
             out_data,
         ),
@@ -90,7 +90,7 @@ pub fn take_values(
             indices,
             index_data,
             index_validity,
-            valid,
+            out_validity,
             out_offsets,
             out_data,
         ),

@@ -1,5 +1,3 @@
-pub mod Masking
-pub mod Counting
-pub mod Showing
-pub mod Starting
-pub mod Copying
+pub mod Reading
+pub mod Measuring
+pub mod Writing

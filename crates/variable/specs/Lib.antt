@@ -1,3 +1,2 @@
-pub mod Taken
 pub mod Measured
-pub mod Copied
+pub mod Ready

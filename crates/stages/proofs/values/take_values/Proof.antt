@@ -1,7 +1,7 @@
 -- `stages::«data»::take_values` meets its contract: each arm by the kind that led to it. Assumes nothing.
 use mathlib.Core.Bool.{true, false}
 use borrow.Author.Needs.{needs}
-use Rattle.stages.proofs.Routines.{kind-told, layout-by, under-null-by, known, blocked, blocks-stored, blocks-keep, data-held, bits-room, bits-stored, bits-keep, variable-stored}
+use Rattle.stages.proofs.Routines.{kind-told, layout-by, under-null-by, known, blocked, blocks-stored, blocks-keep, data-held, bits-room, bits-stored, bits-keep}
 use Rattle.stages.proofs.values.take_values.Statement.{statement}
 use Rattle.stages.proofs.values.take_values.Tie as tie
 
@@ -35,7 +35,13 @@ take-bytes-requires : tie.Need-take-bytes-requires
 take-bytes-requires c κs =
     let k = c .before .before .before .before in
     let p = k .before .before .before .before .before .before .before .before .before .pre in
-    (p .0, (kind-told _ (k .kind-of .ensures) (c .before .before .enum-told3 .given .1), (p .1 .1 .1 .1, (p .1 .1 .1 .0, p .1 .0))))
+    record {
+      ready = p .0;
+      layout = layout-by _ (kind-told _ (k .kind-of .ensures) (c .before .before .enum-told3 .given .1));
+      shows = p .1 .1 .1 .1;
+      noOverflow = p .1 .1 .1 .0;
+      room = p .1 .0;
+    }
 
 enum-told-4 : tie.Need-enum-told-4
 enum-told-4 c = search needs
@@ -44,7 +50,13 @@ take-list-requires : tie.Need-take-list-requires
 take-list-requires c κs =
     let k = c .before .before .before .before in
     let p = k .before .before .before .before .before .before .before .before .before .pre in
-    (p .0, (kind-told _ (k .kind-of .ensures) (c .before .before .enum-told4 .given .1), (p .1 .1 .1 .1, (p .1 .1 .1 .0, p .1 .0))))
+    record {
+      ready = p .0;
+      layout = layout-by _ (kind-told _ (k .kind-of .ensures) (c .before .before .enum-told4 .given .1));
+      shows = p .1 .1 .1 .1;
+      noOverflow = p .1 .1 .1 .0;
+      room = p .1 .0;
+    }
 
 enum-told-5 : tie.Need-enum-told-5
 enum-told-5 c = search needs
@@ -96,12 +108,7 @@ same-length-4 : tie.Need-same-length-4
 same-length-4 c = search needs
 
 returns-3 : tie.Need-returns-3
-returns-3 c =
-    let t = c .before .before .before .before .take-bytes .ensures in
-    let k = c .before .before .before .before .before .before .before .before .before in
-    let p = k .before .before .before .before .before .before .before .before .before .pre in
-    let e = layout-by _ (kind-told _ (k .kind-of .ensures) (c .before .before .before .before .before .before .before .enum-told3 .given .1)) in
-    (variable-stored _ _ (p .0) _ _ e (t .0), t .1)
+returns-3 c = c .before .before .before .before .take-bytes .ensures
 
 same-length-5 : tie.Need-same-length-5
 same-length-5 c = search needs
@@ -110,12 +117,7 @@ same-length-6 : tie.Need-same-length-6
 same-length-6 c = search needs
 
 returns-4 : tie.Need-returns-4
-returns-4 c =
-    let t = c .before .before .before .before .take-list .ensures in
-    let k = c .before .before .before .before .before .before .before .before .before in
-    let p = k .before .before .before .before .before .before .before .before .before .pre in
-    let e = layout-by _ (kind-told _ (k .kind-of .ensures) (c .before .before .before .before .before .before .before .enum-told4 .given .1)) in
-    (variable-stored _ _ (p .0) _ _ e (t .0), t .1)
+returns-4 c = c .before .before .before .before .take-list .ensures
 
 same-length-7 : tie.Need-same-length-7
 same-length-7 c = search needs

@@ -1,31 +1,28 @@
 -- `variable::total::measure_variable` meets its contract: a sum that fits has no row of refusal 6 on the way; else the count stops at that row. Assumes nothing.
+use native.Mathlib.Omega.{arith}
+use Rattle.variable.proofs.Reading.{facts, picked-there}
+use Rattle.variable.proofs.Measuring.{no-rows, bytes-fit, sum-fit, sum-over}
 use borrow.Author.Needs.{needs}
-use Rattle.variable.proofs.Counting.{bytes-fit, sum-fit, sum-over}
 use Rattle.variable.proofs.total.measure_variable.Statement.{statement}
 use Rattle.variable.proofs.total.measure_variable.Tie as tie
 
-sum-entries-requires : tie.Need-sum-entries-requires
-sum-entries-requires c κs = let f = c .before .before .before .before .before in record { ready = f .pre .0; unit = f .args .unit; layout = f .pre .1 }
+returns : tie.Need-returns
+returns c = let p = c .before .before .before .before .before .before .before .pre in no-rows (p .0) (p .1) (c .if1 .taken)
 
 largest-offset-requires : tie.Need-largest-offset-requires
 largest-offset-requires c κs = search needs
 
-mul-t16 : tie.Need-mul-t16
-mul-t16 c =
-    let s = c .before .before in
-    let f = s .before .before .before .before .before .before in
-    record { fits = bytes-fit (f .pre .0) (f .pre .1) (s .sum-entries .ensures) }
+sum-by-width-requires : tie.Need-sum-by-width-requires
+sum-by-width-requires c κs = let p = c .before .before .before .before .before .before .before .before .pre in (facts (p .0) (p .1) .width, picked-there (p .0) (p .1) (omega (arith, c .before .if1 .left)))
 
-returns : tie.Need-returns
-returns c =
-    let s = c .before .before in
-    let f = s .before .before .before .before .before .before in
-    sum-fit (f .pre .0) (f .pre .1) (s .sum-entries .ensures) (c .before .largest-offset .ensures) (c .if1 .taken)
+mul-t21 : tie.Need-mul-t21
+mul-t21 c = let p = c .before .before .before .before .before .before .before .before .before .before .pre in record { fits = bytes-fit (p .0) (p .1) (c .before .sum-by-width .ensures) }
+
+returns-2 : tie.Need-returns-2
+returns-2 c = let p = c .before .before .before .before .before .before .before .before .before .before .pre in sum-fit (p .0) (p .1) (c .before .sum-by-width .ensures) (c .before .before .largest-offset .ensures) (c .if2 .taken)
 
 count-entries-requires : tie.Need-count-entries-requires
-count-entries-requires c κs =
-    let f = c .before .before .before .before .before .before .before .before in
-    record { ready = f .pre .0; unit = f .args .unit; layout = f .pre .1 }
+count-entries-requires c κs = let p = c .before .before .before .before .before .before .before .before .before .before .pre in picked-there (p .0) (p .1) (omega (arith, c .before .before .before .if1 .left))
 
 kind-of-requires : tie.Need-kind-of-requires
 kind-of-requires c κs = search needs
@@ -33,23 +30,23 @@ kind-of-requires c κs = search needs
 overflow-total-requires : tie.Need-overflow-total-requires
 overflow-total-requires c κs = search needs
 
-returns-2 : tie.Need-returns-2
-returns-2 c =
+returns-3 : tie.Need-returns-3
+returns-3 c =
     let n = c .before .before in
-    let s = n .before .before .before in
-    let f = s .before .before .before .before .before .before in
-    sum-over (f .pre .0) (f .pre .1) (s .sum-entries .ensures) (n .before .before .largest-offset .ensures) (n .before .if1 .left) (n .count-entries .ensures)
-    (c .before .kind-of .ensures) (c .overflow-total .ensures)
+    let s = n .before .before in
+    let p = c .before .before .before .before .before .before .before .before .before .before .before .before .before .pre in
+    sum-over (p .0) (p .1) (s .sum-by-width .ensures) (s .before .largest-offset .ensures) (n .before .if2 .left) (n .count-entries .ensures) (c .before .kind-of .ensures) (c .overflow-total .ensures)
 
 pub measure-variable-spec : {M : Type 1} → statement M
 measure-variable-spec =
     tie.close
     (tie.spec
-    sum-entries-requires
-    largest-offset-requires
-    mul-t16
     returns
+    largest-offset-requires
+    sum-by-width-requires
+    mul-t21
+    returns-2
     count-entries-requires
     kind-of-requires
     overflow-total-requires
-    returns-2)
+    returns-3)

@@ -1,0 +1,2 @@
+pub mod Masking
+pub mod Running
