@@ -2,7 +2,7 @@
 use mathlib.Core.Path.{_≡_, refl, sym, ap, _∙_}
 use mathlib.Core.Bool.{Bool, true, false, not, _&&_, true≢false}
 use mathlib.Core.List.{List}
-use Prim.Native.Nat.{ℕ, suc, _+_, _*_, _/_, _%_, _^_, _≤_, _<_}
+use Prim.Native.Nat.{ℕ, _+_, _*_, _/_, _%_, _^_, _≤_, _<_}
 use native.Mathlib.Nat.{mul-zero, mul-one, mul-le-mul-left, mul-le-mul-right}
 use native.Mathlib.Omega.{arith}
 use lib.Bits.{bitAnd, and-mask, and-le-r}
@@ -16,7 +16,6 @@ use Rattle.tables.specs.Columns.{IndexColumn, indexValid, index}
 use Rattle.gathers.specs.Buffers.{takenBit}
 use Rattle.gathers.specs.Ready.{InRange}
 use Rattle.bitmaps.specs.Reach.{HoldsBits, Reached, bitIn, byteBit, Reaches}
-use Rattle.bits.proofs.Tests.{and-true}
 use Rattle.bits.proofs.Bytes.{block-inside}
 use Rattle.bits.proofs.Bits.{bitValue-lt, bit-test, bit-value, byteOf-bit, byteOf-cong, pack-cong, validAt-absent, validAt-present}
 use Rattle.tables.proofs.Facts.{index-formed}

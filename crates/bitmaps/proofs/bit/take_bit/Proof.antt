@@ -1,5 +1,4 @@
 -- `bitmaps::bit::take_bit` meets its contract. Under a null index the first row's bit is read, which is there, and the bit is masked. Assumes nothing.
-use mathlib.Core.Path.{_∙_}
 use native.Mathlib.Omega.{arith}
 use borrow.Author.Needs.{needs}
 use Rattle.bits.proofs.Bits.{bitAt-masked}

@@ -1,10 +1,9 @@
 -- `bitmaps::bit::valid_byte` meets its contract: 255 has a one at each place, and the bits that are lent are there. Assumes nothing.
 use mathlib.Core.Path.{sym, ap, _∙_}
-use Prim.Native.Nat.{ℕ, _+_, _<_}
+use Prim.Native.Nat.{ℕ, _+_}
 use native.Mathlib.Omega.{arith}
 use lib.Dec.{eqb}
 use borrow.Author.Tests.{ne-eqb}
-use borrow.Author.Needs.{needs}
 use Rattle.bits.proofs.Bits.{validAt-absent}
 use Rattle.bits.proofs.Words.{ones-below}
 use Rattle.bitmaps.proofs.Reading.{valid-read}
