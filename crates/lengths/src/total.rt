@@ -18,21 +18,29 @@ pub struct Counted {
     pub after: u64,
 }
 
+// Where the validities of the rows and of the indices start, and how many indices there are.
+pub struct Places {
+    pub bit: usize,
+    pub index_bit: usize,
+    pub count: usize,
+}
+
 // The entries of all output rows.
 pub fn sum_entries(
     offsets: &[u8],
     ow: usize,
     validity: &[u8],
-    bit: usize,
     index_data: &[u8],
     w: usize,
     index_validity: &[u8],
-    index_bit: usize,
-    count: usize,
+    at: Places,
 ) -> u64
-    requires { ⌜ PickedThere ow (now offsets) (picksAt validity bit «index_data» w «index_validity» «index_bit») count ⌝ }
-    ensures { λ r. ⌜ r ≡ sum count (pickedEntries ow (now (offsets .entry)) (picksAt (validity .entry) bit («index_data» .entry) w («index_validity» .entry) «index_bit»)) ⌝ }
+    requires { ⌜ PickedThere ow (now offsets) (picksAt validity (at .bit) «index_data» w «index_validity» (at .«index_bit»)) (at .count) ⌝ }
+    ensures { λ r. ⌜ r ≡ sum (at .count) (pickedEntries ow (now (offsets .entry)) (picksAt (validity .entry) (at .bit) («index_data» .entry) w («index_validity» .entry) (at .«index_bit»))) ⌝ }
 {
+    let bit = at.bit;
+    let index_bit = at.index_bit;
+    let count = at.count;
     let mut total: u64 = 0;
     let mut j: usize = 0;
     while j < count {
@@ -57,17 +65,19 @@ pub fn count_entries(
     offsets: &[u8],
     ow: usize,
     validity: &[u8],
-    bit: usize,
     index_data: &[u8],
     w: usize,
     index_validity: &[u8],
-    index_bit: usize,
-    count: usize,
+    at: Places,
     most: u64,
 ) -> Counted
-    requires { ⌜ PickedThere ow (now offsets) (picksAt validity bit «index_data» w «index_validity» «index_bit») count ⌝ }
-    ensures { λ r. ⌜ CountedTo most (pickedEntries ow (now (offsets .entry)) (picksAt (validity .entry) bit («index_data» .entry) w («index_validity» .entry) «index_bit»)) count r ⌝ }
+    requires { ⌜ PickedThere ow (now offsets) (picksAt validity (at .bit) «index_data» w «index_validity» (at .«index_bit»)) (at .count) ⌝ }
+    ensures { λ r. ⌜ CountedTo most
+        (pickedEntries ow (now (offsets .entry)) (picksAt (validity .entry) (at .bit) («index_data» .entry) w («index_validity» .entry) (at .«index_bit»))) (at .count) r ⌝ }
 {
+    let bit = at.bit;
+    let index_bit = at.index_bit;
+    let count = at.count;
     let mut total: u64 = 0;
     let mut j: usize = 0;
     while j < count {

@@ -3,6 +3,7 @@
 use crate::width::sum_by_width;
 use kinds::kind::kind_of;
 use kinds::kind::uses_of;
+use lengths::total::Places;
 use lengths::total::count_entries;
 use tables::refusal::Checked;
 use tables::refusal::Refusal;
@@ -68,22 +69,14 @@ pub fn measure_variable(
         };
     }
     let ow = table.offset_width as usize;
-    let bit = table.validity_bit as usize;
     let w = indices.width as usize;
-    let index_bit = indices.validity_bit as usize;
-    let count = indices.count as usize;
+    let at = Places {
+        bit: table.validity_bit as usize,
+        index_bit: indices.validity_bit as usize,
+        count: indices.count as usize,
+    };
     let most = largest_offset(table.offset_width);
-    let sum = sum_by_width(
-        offsets,
-        ow,
-        validity,
-        bit,
-        index_data,
-        w,
-        index_validity,
-        index_bit,
-        count,
-    );
+    let sum = sum_by_width(offsets, ow, validity, index_data, w, index_validity, at);
     if sum <= most {
         return Measured {
             checked: Checked::Fit,
@@ -94,12 +87,10 @@ pub fn measure_variable(
         offsets,
         ow,
         validity,
-        bit,
         index_data,
         w,
         index_validity,
-        index_bit,
-        count,
+        at,
         most,
     );
     let total = overflow_total(kind_of(table.kind), counted.after, counted.before);

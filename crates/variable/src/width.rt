@@ -1,5 +1,6 @@
-// The loops at an offset width of 4 or of 8: a literal at the call gives each width a loop of its own. An index width costs nothing there, where loads are
-// waited for.
+// The loops at an offset width of 4 or of 8: a literal at the call gives each width a loop of its own. Where loads are waited for, an index width costs
+// nothing.
+use lengths::total::Places;
 use lengths::total::put_totals;
 use lengths::total::sum_entries;
 use rows::row::copy_rows;
@@ -9,50 +10,40 @@ ghost use Prim.Native.Nat.{suc, _*_, _≤_};
 ghost use lib.ListN.{length};
 ghost use Rattle.bits.specs.Sequences.{concat, sum};
 ghost use Rattle.bits.specs.Bytes.{overwrite};
+ghost use Rattle.bits.specs.Numbers.{isNumberWidth};
 ghost use Rattle.tables.specs.Kinds.{isOffsetWidth};
 ghost use Rattle.lengths.specs.Entries.{picksAt};
 ghost use Rattle.lengths.specs.Totals.{pickedEntries, shownEntries, PickedThere, ShownThere, totalBytes};
 ghost use Rattle.rows.specs.Rows.{sourcesAt, rowAt, rowBytes, CopyReady};
 
+// The sum has a loop for each pair of widths: it waits for nothing else.
 pub fn sum_by_width(
     offsets: &[u8],
     ow: usize,
     validity: &[u8],
-    bit: usize,
     index_data: &[u8],
     w: usize,
     index_validity: &[u8],
-    index_bit: usize,
-    count: usize,
+    at: Places,
 ) -> u64
-    requires { ⌜ isOffsetWidth ow ≡ true ⌝ }
-    requires { ⌜ PickedThere ow (now offsets) (picksAt validity bit «index_data» w «index_validity» «index_bit») count ⌝ }
-    ensures { λ r. ⌜ r ≡ sum count (pickedEntries ow (now (offsets .entry)) (picksAt (validity .entry) bit («index_data» .entry) w («index_validity» .entry) «index_bit»)) ⌝ }
+    requires { ⌜ (isOffsetWidth ow ≡ true) × (isNumberWidth w ≡ true) ⌝ }
+    requires { ⌜ PickedThere ow (now offsets) (picksAt validity (at .bit) «index_data» w «index_validity» (at .«index_bit»)) (at .count) ⌝ }
+    ensures { λ r. ⌜ r ≡ sum (at .count) (pickedEntries ow (now (offsets .entry)) (picksAt (validity .entry) (at .bit) («index_data» .entry) w («index_validity» .entry) (at .«index_bit»))) ⌝ }
 {
     if ow == 4 {
-        return sum_entries(
-            offsets,
-            4,
-            validity,
-            bit,
-            index_data,
-            w,
-            index_validity,
-            index_bit,
-            count,
-        );
+        return match w {
+            2 => sum_entries(offsets, 4, validity, index_data, 2, index_validity, at),
+            4 => sum_entries(offsets, 4, validity, index_data, 4, index_validity, at),
+            8 => sum_entries(offsets, 4, validity, index_data, 8, index_validity, at),
+            _ => sum_entries(offsets, 4, validity, index_data, 1, index_validity, at),
+        };
     }
-    sum_entries(
-        offsets,
-        8,
-        validity,
-        bit,
-        index_data,
-        w,
-        index_validity,
-        index_bit,
-        count,
-    )
+    match w {
+        2 => sum_entries(offsets, 8, validity, index_data, 2, index_validity, at),
+        4 => sum_entries(offsets, 8, validity, index_data, 4, index_validity, at),
+        8 => sum_entries(offsets, 8, validity, index_data, 8, index_validity, at),
+        _ => sum_entries(offsets, 8, validity, index_data, 1, index_validity, at),
+    }
 }
 
 pub fn put_by_width(
