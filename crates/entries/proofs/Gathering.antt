@@ -14,7 +14,7 @@ use Rattle.tables.specs.declared.table.Layout.{Layout}
 use Rattle.tables.specs.Columns.{Column, IndexColumn, layoutAt}
 use Rattle.tables.specs.Answers.{passes, refusalNumbers, firstOf}
 use Rattle.tables.specs.Stages.{checkedNumbers, formRefusal}
-use Rattle.tables.specs.Refusals.{indexRefusal, WellFormed}
+use Rattle.tables.specs.Refusals.{indexRefusal}
 use Rattle.tables.specs.Rows.{Rows, rowsOf}
 use Rattle.gathers.specs.Taken.{takeRows}
 use Rattle.gathers.specs.Stored.{Output, validityBytes, dataBytes, validityLength, offsetLength, dataLength, nullCount, storeOffsets}
@@ -22,7 +22,6 @@ use Rattle.gathers.specs.Gather.{refusals, Outcome, gather}
 use Rattle.gathers.specs.Stages.{rangeRefusal, overflowRefusal, measured, spaceRefusal}
 use Rattle.gathers.specs.Ready.{Ready}
 use Rattle.gathers.specs.Buffers.{someOutside}
-use Rattle.gathers.specs.Blank.{blank}
 use Rattle.variable.specs.declared.total.Measured.{Measured}
 use Rattle.variable.specs.Measured.{measuredBy, measuredNumbers}
 use Rattle.entries.specs.declared.check.Tested.{Tested}

@@ -26,7 +26,7 @@ use Rattle.gathers.specs.Stages.{overflowRefusal, measured}
 use Rattle.gathers.specs.Ready.{Ready}
 use Rattle.gathers.specs.Buffers.{takenBitValid, takenEntries, takenBytes}
 use Rattle.bits.proofs.Tests.{and-true}
-use Rattle.bits.proofs.Sequences.{sum-const, sum-le, sum-mono, sum-mul, length-variable}
+use Rattle.bits.proofs.Sequences.{sum-const, sum-le, sum-mono, sum-mul}
 use Rattle.tables.proofs.Facts.{formed, index-formed}
 use Rattle.tables.proofs.Offsets.{VariableFacts, variable-facts, below}
 use Rattle.tables.proofs.Rows.{variable-length}
@@ -124,10 +124,6 @@ module _ (c : Column) (x : IndexColumn) where
               omega (arith, variable-inside (suc (index x j)) (taken-below j h d), ready-facts .small)
           go false d = rw (zero-mul u) (omega arith)
 
-    -- the bytes of the first j rows
-    pub taken-lengths : (j : ℕ) → j ≤ x .indices .count → length (concat j (takenBytes u c x)) ≡ sum j (takenEntries c x) * u
-    taken-lengths j h = length-variable j u (takenBytes u c x) (takenEntries c x) (λ i l. taken-length i (omega arith))
-
     -- they are few, whatever the data outputs hold
     pub total-small : (j : ℕ) → j ≤ x .indices .count → (sum j (takenEntries c x) ≤ maxRows * maxBytes) × (sum j (takenEntries c x) * u ≤ maxRows * maxBytes)
     total-small j h =
@@ -136,10 +132,6 @@ module _ (c : Column) (x : IndexColumn) where
         let m : j * maxBytes ≤ maxRows * maxBytes = mul-le-mul-right {n = maxRows} maxBytes (omega (arith, index-formed x (r .indices .passed) .count)) in
         let b : sum j E * u ≤ maxRows * maxBytes = omega (arith, sum-const j maxBytes, sum-mul j E u) in
         (omega (arith, mul-le-mul-left (sum j E) (ready-facts .unit)), b)
-
-    -- the running total after j rows is at most that of all
-    pub total-mono : (j : ℕ) → j ≤ x .indices .count → sum j (takenEntries c x) * u ≤ sum (x .indices .count) (takenEntries c x) * u
-    total-mono j h = mul-le-mul-right u (sum-mono (x .indices .count) (takenEntries c x) h)
 
     -- past refusal 6 each running total is an offset of its width
     pub total-offset : passes (overflowRefusal v) ≡ true → (j : ℕ) → j ≤ x .indices .count → sum j (takenEntries c x) < 256 ^ (c .table .«offset_width»)

@@ -1,6 +1,6 @@
 -- The turns of the loops over the entries E of the output rows. Assumes nothing.
 use mathlib.Core.Path.{_≡_, refl, sym, ap, _∙_}
-use mathlib.Core.Bool.{Bool, true, false}
+use mathlib.Core.Bool.{false}
 use mathlib.Core.List.{List}
 use Prim.Native.Nat.{ℕ, suc, _+_, _*_, _^_, _≤_, _<_}
 use native.Mathlib.Numerals.{add-one}
@@ -9,7 +9,7 @@ use lib.Dec.{ltb}
 use lib.ListN.{length}
 use borrow.Author.Count.{below-more}
 use borrow.Author.Tests.{lt-ltb, le-ltb}
-use Rattle.bits.specs.Sequences.{sum, first}
+use Rattle.bits.specs.Sequences.{sum}
 use Rattle.bits.specs.Bytes.{overwrite, overwriteAt}
 use Rattle.bits.specs.Numbers.{toLittleEndian}
 use Rattle.bits.proofs.Bytes.{overwrite-tail, block-inside}

@@ -9,7 +9,7 @@ use lib.Bits.{bitAnd, and-mask}
 use lib.Dec.{leb, ltb}
 use lib.ListN.{length, take, drop, replicate, length-append, length-replicate}
 use lib.Pow.{mod-mod-pow, field}
-use lib.Seq.{length-take-le, take-take, take-append-le, take-append-add, drop-append-add, drop-drop, take-at, take-all}
+use lib.Seq.{length-take-le, take-take, take-append-le, take-append-add, drop-append-add, drop-drop, take-at}
 use borrow.Author.Tests.{leb-true, ltb-true, lt-ltb, le-ltb}
 use Rattle.bits.specs.Bytes.{part, overwrite, overwriteAt}
 use Rattle.bits.specs.Numbers.{littleEndian, toLittleEndian}

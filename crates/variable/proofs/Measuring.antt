@@ -1,7 +1,7 @@
 -- What refusal 6 says of the sum of the entries of all output rows, and of the first row after which their total is above the largest offset. Assumes nothing.
-use mathlib.Core.Path.{_≡_, refl, sym, ap, _∙_, subst}
+use mathlib.Core.Path.{_≡_, refl, sym, ap, _∙_}
 use mathlib.Core.Bool.{Bool, true, false, cond, true≢false}
-use Prim.Native.Nat.{ℕ, zero, suc, _+_, _*_, _^_, _≤_, _<_}
+use Prim.Native.Nat.{ℕ, zero, suc, _*_, _^_, _≤_, _<_}
 use native.Mathlib.Nat.{le-refl, zero-mul}
 use native.Mathlib.Omega.{arith}
 use lib.Dec.{eqb, ltb}
@@ -11,7 +11,7 @@ use Rattle.tables.specs.declared.table.Kind.{Kind}
 use Rattle.tables.specs.declared.table.Layout.the-variants.{VariableWidth}
 use Rattle.tables.specs.Kinds.{kindOf}
 use Rattle.tables.specs.Answers.{refuse}
-use Rattle.tables.specs.Columns.{Column, IndexColumn, kindAt, layoutAt}
+use Rattle.tables.specs.Columns.{Column, IndexColumn, layoutAt}
 use Rattle.gathers.specs.Taken.{taken}
 use Rattle.gathers.specs.Gather.{overflowAt, overflowTotal}
 use Rattle.gathers.specs.Stages.{measured}

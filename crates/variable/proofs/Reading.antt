@@ -1,8 +1,8 @@
 -- What the tests of a column of variable width and of an index column say of what is read: it is there, and it is what `takeRows` takes. Assumes nothing.
-use mathlib.Core.Path.{_≡_, refl, sym, ap, _∙_}
+use mathlib.Core.Path.{_≡_, refl, sym, _∙_}
 use mathlib.Core.Bool.{Bool, true, false, _&&_}
 use mathlib.Core.List.{List}
-use Prim.Native.Nat.{ℕ, suc, _+_, _-_, _*_, _^_, _≤_, _<_}
+use Prim.Native.Nat.{ℕ, suc, _+_, _-_, _*_, _≤_, _<_}
 use native.Mathlib.Nat.{mul-one, mul-zero}
 use native.Mathlib.Omega.{arith}
 use lib.Dec.{eqb}
@@ -10,9 +10,9 @@ use lib.ListN.{length}
 use borrow.Author.Tests.{eqb-true, eq-eqb}
 use Rattle.bits.specs.Sequences.{sum}
 use Rattle.bits.specs.Numbers.{numberAt, isNumberWidth}
-use Rattle.bits.specs.Bits.{bitValue, bitAt, isAbsent, validAt}
+use Rattle.bits.specs.Bits.{bitValue, bitAt, validAt}
 use Rattle.tables.specs.declared.table.Layout.the-variants.{VariableWidth}
-use Rattle.tables.specs.Columns.{Column, IndexColumn, layoutAt, offsetAt, indexValid, index}
+use Rattle.tables.specs.Columns.{Column, IndexColumn, layoutAt, indexValid, index}
 use Rattle.gathers.specs.Buffers.{takenBitValid, takenEntries, Validates}
 use Rattle.gathers.specs.Ready.{Ready}
 use Rattle.bits.proofs.Sequences.{sum-cong}
@@ -22,7 +22,7 @@ use Rattle.tables.proofs.Facts.{formed, IndexFormed, index-formed}
 use Rattle.tables.proofs.There.{index-number, index-valid, index-there, index-valid-there, row-valid-there, offset-there}
 use Rattle.tables.proofs.Offsets.{VariableFacts, rises}
 use Rattle.tables.proofs.Views.{offsetAt-number}
-use Rattle.gathers.proofs.Buffers.{valid-below, validates-there, validates-bit, valid-null, valid-by-bit, valid-by-index, bit-named}
+use Rattle.gathers.proofs.Buffers.{valid-below, validates-bit, valid-null, valid-by-bit, valid-by-index, bit-named}
 use Rattle.gathers.proofs.VariableRows.{ready-facts, taken-below, entries-valid, entries-null, total-small}
 use Rattle.lengths.specs.Entries.{Picks, pick, isPicked, isShown, entriesAt, PickThere, EntriesThere}
 use Rattle.lengths.specs.Totals.{pickedEntries, shownEntries, PickedThere, ShownThere}

@@ -2,23 +2,20 @@
 use mathlib.Core.Path.{_≡_, refl, sym, ap, ap₂, _∙_}
 use mathlib.Core.Bool.{Bool, true, false}
 use mathlib.Core.List.{List}
-use Prim.Native.Nat.{ℕ, suc, _+_, _-_, _*_, _^_, _≤_, _<_}
+use Prim.Native.Nat.{ℕ, suc, _+_, _-_, _*_, _≤_, _<_}
 use native.Mathlib.Nat.{add-mul, le-trans, mul-comm, mul-sub, mul-le-mul-right, zero-mul}
 use native.Mathlib.Numerals.{add-one}
 use native.Mathlib.Omega.{arith}
 use lib.ListN.{length, drop}
 use Rattle.bits.specs.Sequences.{concat, sum}
 use Rattle.bits.specs.Bytes.{part, overwrite}
-use Rattle.bits.specs.Numbers.{numberAt, toLittleEndian, isNumberWidth}
-use Rattle.bits.specs.Bits.{bitAt}
+use Rattle.bits.specs.Numbers.{numberAt, toLittleEndian}
 use Rattle.tables.specs.Columns.{Column, IndexColumn, offsetAt, index}
 use Rattle.tables.specs.Refusals.{maxBytes}
-use Rattle.gathers.specs.Taken.{taken}
-use Rattle.gathers.specs.Stored.{offsetBytes}
 use Rattle.gathers.specs.Ready.{storedOffsets, storedData}
 use Rattle.gathers.specs.Buffers.{takenEntries, takenBytes}
 use Rattle.bits.proofs.Numbers.{numberAt-concat}
-use Rattle.bits.proofs.Sequences.{concat-cong, sum-mono}
+use Rattle.bits.proofs.Sequences.{concat-cong}
 use Rattle.tables.proofs.Offsets.{rises, offsets-mono}
 use Rattle.tables.proofs.There.{index-number}
 use Rattle.tables.proofs.Views.{offsetAt-number}

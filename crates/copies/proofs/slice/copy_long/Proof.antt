@@ -1,6 +1,5 @@
 -- `copies::slice::copy_long` meets its contract. The invariant: the first k bytes are copied. The last 64 end the copy, wherever k is. Assumes nothing.
 use mathlib.Core.Path.{_≡_, refl, ap, _∙_}
-use mathlib.Core.List.{List}
 use Prim.Native.Nat.{ℕ, _+_, _-_, _≤_}
 use native.Mathlib.Omega.{arith}
 use lib.ListN.{length, take}

@@ -1,5 +1,4 @@
 -- `copies::slice::copy_middle` meets its contract. The four meet, since there are no more bytes than they have. Assumes nothing.
-use native.Mathlib.Omega.{arith}
 use Rattle.copies.proofs.Pieces.{four}
 use borrow.Author.Needs.{needs}
 use Rattle.copies.proofs.slice.copy_middle.Statement.{statement}

@@ -1,5 +1,4 @@
 -- `lengths::row::masked_row` meets its contract. The bit that is read is that of the row which a valid index names, else that of row 0. Assumes nothing.
-use native.Mathlib.Omega.{arith}
 use Rattle.lengths.proofs.Masking.{masked-fits, both-low, picked-low, row-by-index, bit-can, row-by-bit}
 use borrow.Author.Needs.{needs}
 use Rattle.lengths.proofs.row.masked_row.Statement.{statement}
