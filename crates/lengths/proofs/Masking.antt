@@ -16,7 +16,7 @@ use Rattle.bits.specs.Bits.{bitValue, bitAt, validAt}
 use Rattle.bits.proofs.Tests.{and-right}
 use Rattle.bits.proofs.Bits.{bitValue-lt, bit-and, validAt-absent, validAt-present}
 use Rattle.lengths.specs.declared.row.Taken.{Taken}
-use Rattle.lengths.specs.Entries.{Picks, pick, isPicked, isShown, takenRow, entriesAt, PickThere, EntriesThere}
+use Rattle.lengths.specs.Entries.{Selection, rowNumber, isSelected, isShown, takenRow, entriesAt, SelectionThere, EntriesThere}
 
 -- what a number that is 0 or 1 masks is no larger
 pub masked-fits : {n v : ℕ} → v ≤ 1 → Fits w64 n → Fits w64 (n * v)
@@ -35,15 +35,15 @@ masked false n e d = ap₂ (λ (a b : ℕ). record { row = a; valid = b }) (rw e
 
 -- ---- the row, from the bit v of its index and the number n at it
 
-module _ {p : Picks} {j : ℕ} (h : PickThere p j) {v : ℕ} (e : v ≡ bitValue (isPicked p j)) {n : ℕ} (d : n ≡ pick p j) where
-  pub picked-low : v ≤ 1
-  picked-low = bit-low (isPicked p j) e
+module _ {p : Selection} {j : ℕ} (h : SelectionThere p j) {v : ℕ} (e : v ≡ bitValue (isSelected p j)) {n : ℕ} (d : n ≡ rowNumber p j) where
+  pub selected-low : v ≤ 1
+  selected-low = bit-low (isSelected p j) e
 
   -- rows that are all valid
-  pub row-by-index : length (p .validity) ≡ 0 → record { row = n * v; valid = v } ≡ takenRow (isShown p j) (pick p j)
+  pub row-by-index : length (p .validity) ≡ 0 → record { row = n * v; valid = v } ≡ takenRow (isShown p j) (rowNumber p j)
   row-by-index z =
-      let k : isShown p j ≡ isPicked p j = rw (validAt-absent (p .validity) (p .bit) (pick p j) z) (and-right (isPicked p j)) in
-      masked (isShown p j) (pick p j) (e ∙ ap bitValue (sym k)) (ap (λ (m : ℕ). m * v) d)
+      let k : isShown p j ≡ isSelected p j = rw (validAt-absent (p .validity) (p .bit) (rowNumber p j) z) (and-right (isSelected p j)) in
+      masked (isShown p j) (rowNumber p j) (e ∙ ap bitValue (sym k)) (ap (λ (m : ℕ). m * v) d)
 
   module _ (there : length (p .validity) ≡ 0 → ⊥) where
     -- the bit of the row that a valid index names, else that of row 0
@@ -52,19 +52,19 @@ module _ {p : Picks} {j : ℕ} (h : PickThere p j) {v : ℕ} (e : v ≡ bitValue
 
     module _ {m : ℕ} (f : m ≡ bitValue (bitAt (p .validity) (p .bit + n * v))) where
       valid-both : bitAnd m v ≡ bitValue (isShown p j)
-      valid-both = go (isPicked p j) e
+      valid-both = go (isSelected p j) e
         where
-          go : (t : Bool) → v ≡ bitValue t → bitAnd m v ≡ bitValue (t && validAt (p .validity) (p .bit) (pick p j))
+          go : (t : Bool) → v ≡ bitValue t → bitAnd m v ≡ bitValue (t && validAt (p .validity) (p .bit) (rowNumber p j))
           go true g =
-              let k : n * v ≡ pick p j = rw (g, mul-one n) d in
-              let y : m ≡ bitValue (validAt (p .validity) (p .bit) (pick p j)) = f ∙ ap (λ (i : ℕ). bitValue (bitAt (p .validity) (p .bit + i))) k ∙ ap bitValue (sym (validAt-present (p .validity) (p .bit) (pick p j) there)) in
-              let z : m % 2 * v ≡ m = rw (g, mul-one (m % 2)) (omega (arith, y, bitValue-lt (validAt (p .validity) (p .bit) (pick p j)))) in
+              let k : n * v ≡ rowNumber p j = rw (g, mul-one n) d in
+              let y : m ≡ bitValue (validAt (p .validity) (p .bit) (rowNumber p j)) = f ∙ ap (λ (i : ℕ). bitValue (bitAt (p .validity) (p .bit + i))) k ∙ ap bitValue (sym (validAt-present (p .validity) (p .bit) (rowNumber p j) there)) in
+              let z : m % 2 * v ≡ m = rw (g, mul-one (m % 2)) (omega (arith, y, bitValue-lt (validAt (p .validity) (p .bit) (rowNumber p j)))) in
               bit-and m v (omega (arith, g)) ∙ z ∙ y
           go false g = bit-and m v (omega (arith, g)) ∙ rw (g, mul-zero (m % 2))
 
       -- the number is masked twice, by a bit that is set only where the first is
       masked-twice : n * v * bitAnd m v ≡ n * bitAnd m v
-      masked-twice = go (isPicked p j) e
+      masked-twice = go (isSelected p j) e
         where
           go : (t : Bool) → v ≡ bitValue t → n * v * bitAnd m v ≡ n * bitAnd m v
           go true g = ap (λ (k : ℕ). k * bitAnd m v) (rw (g, mul-one n))
@@ -72,8 +72,8 @@ module _ {p : Picks} {j : ℕ} (h : PickThere p j) {v : ℕ} (e : v ≡ bitValue
               let z : bitAnd m v ≡ 0 = omega (arith, and-le-r m v, g) in
               rw (z, mul-zero (n * v), mul-zero n)
 
-      pub row-by-bit : record { row = n * v * bitAnd m v; valid = bitAnd m v } ≡ takenRow (isShown p j) (pick p j)
-      row-by-bit = masked (isShown p j) (pick p j) valid-both (masked-twice ∙ ap (λ (i : ℕ). i * bitAnd m v) d)
+      pub row-by-bit : record { row = n * v * bitAnd m v; valid = bitAnd m v } ≡ takenRow (isShown p j) (rowNumber p j)
+      row-by-bit = masked (isShown p j) (rowNumber p j) valid-both (masked-twice ∙ ap (λ (i : ℕ). i * bitAnd m v) d)
 
 -- ---- the offsets of the row t, which are offset 0 twice where it is null
 

@@ -15,12 +15,12 @@ use Rattle.bits.specs.Numbers.{toLittleEndian}
 use Rattle.bits.proofs.Bytes.{overwrite-tail, block-inside}
 use Rattle.bits.proofs.Numbers.{length-toLittleEndian}
 use Rattle.bits.proofs.Sequences.{sum-mono, first-at, first-none, length-blocks}
-use Rattle.lengths.specs.Entries.{Picks}
+use Rattle.lengths.specs.Entries.{Selection}
 use Rattle.lengths.specs.Totals.{CountedTo, totalBytes}
 
 -- the buffers of a loop's invariant
-abbrev pub picksOf : List ℕ → ℕ → List ℕ → ℕ → List ℕ → ℕ → Picks
-picksOf v b d w iv ib = record { validity = v; bit = b; indexData = d; width = w; indexValidity = iv; indexBit = ib }
+abbrev pub selectionOf : List ℕ → ℕ → List ℕ → ℕ → List ℕ → ℕ → Selection
+selectionOf v b d w iv ib = record { validity = v; bit = b; indexData = d; width = w; indexValidity = iv; indexBit = ib }
 
 -- ---- the sum of j rows
 

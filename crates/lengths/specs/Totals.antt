@@ -9,21 +9,21 @@ use Rattle.bits.specs.Sequences.{concat, sum, first}
 use Rattle.bits.specs.Numbers.{numberAt, toLittleEndian, isNumberWidth}
 use Rattle.bits.specs.Bits.{bitAt, bytesFor}
 use Rattle.lengths.specs.declared.total.Counted.{Counted}
-use Rattle.lengths.specs.Entries.{Picks, pick, isShown, entriesAt, PickThere, EntriesThere}
+use Rattle.lengths.specs.Entries.{Selection, rowNumber, isShown, entriesAt, SelectionThere, EntriesThere}
 
 -- the entries of output row j: before anything is written, and by the validity s of the output rows
-abbrev pub pickedEntries : ℕ → List ℕ → Picks → ℕ → ℕ
-pickedEntries w offsets p j = entriesAt w offsets (isShown p j) (pick p j)
+abbrev pub selectedEntries : ℕ → List ℕ → Selection → ℕ → ℕ
+selectedEntries w offsets p j = entriesAt w offsets (isShown p j) (rowNumber p j)
 
 abbrev pub shownEntries : ℕ → List ℕ → ℕ → List ℕ → List ℕ → ℕ → ℕ
 shownEntries w offsets iw numbers s j = entriesAt w offsets (bitAt s j) (numberAt iw numbers j)
 
 -- what they are read from is there, and their total is a number of 64 bits
-pub record PickedThere (w : ℕ) (offsets : List ℕ) (p : Picks) (count : ℕ) : Type 0 where
+pub record SelectedThere (w : ℕ) (offsets : List ℕ) (p : Selection) (count : ℕ) : Type 0 where
   pub few : count < 2 ^ 60
-  pub picks : (j : ℕ) → j < count → PickThere p j
-  pub entries : (j : ℕ) → j < count → EntriesThere w offsets (isShown p j) (pick p j)
-  pub small : sum count (pickedEntries w offsets p) < 2 ^ 64
+  pub selection : (j : ℕ) → j < count → SelectionThere p j
+  pub entries : (j : ℕ) → j < count → EntriesThere w offsets (isShown p j) (rowNumber p j)
+  pub small : sum count (selectedEntries w offsets p) < 2 ^ 64
 
 pub record ShownThere (w : ℕ) (offsets : List ℕ) (iw : ℕ) (numbers s : List ℕ) (count : ℕ) : Type 0 where
   pub few : count < 2 ^ 60

@@ -8,8 +8,8 @@ ghost use Prim.Native.Nat.{_+_, _-_, _*_, _^_, _≤_, _<_};
 ghost use lib.ListN.{length};
 ghost use Rattle.bits.specs.Numbers.{numberAt, isNumberWidth};
 ghost use Rattle.bits.specs.Bits.{bitValue, bitAt, isAbsent, validAt};
-ghost use Rattle.lengths.specs.Entries.{picksAt, pick, isShown, takenRow, EntriesThere, PickThere};
-ghost use Rattle.lengths.specs.Totals.{pickedEntries, shownEntries};
+ghost use Rattle.lengths.specs.Entries.{selectionAt, rowNumber, isShown, takenRow, EntriesThere, SelectionThere};
+ghost use Rattle.lengths.specs.Totals.{selectedEntries, shownEntries};
 
 // The row of an output row, and 1; 0 and 0 where the output row is null.
 pub struct Taken {
@@ -46,9 +46,9 @@ fn masked_row(
     index_bit: usize,
     j: usize,
 ) -> Taken
-    requires { ⌜ PickThere (picksAt validity bit «index_data» w «index_validity» «index_bit») j ⌝ }
-    ensures { λ r. ⌜ r ≡ takenRow (isShown (picksAt (validity .entry) bit («index_data» .entry) w («index_validity» .entry) «index_bit») j)
-        (pick (picksAt (validity .entry) bit («index_data» .entry) w («index_validity» .entry) «index_bit») j) ⌝ }
+    requires { ⌜ SelectionThere (selectionAt validity bit «index_data» w «index_validity» «index_bit») j ⌝ }
+    ensures { λ r. ⌜ r ≡ takenRow (isShown (selectionAt (validity .entry) bit («index_data» .entry) w («index_validity» .entry) «index_bit») j)
+        (rowNumber (selectionAt (validity .entry) bit («index_data» .entry) w («index_validity» .entry) «index_bit») j) ⌝ }
 {
     let v = valid_bit(index_validity, index_bit, j);
     let r = number_at(index_data, w, j) as usize * v;
@@ -85,10 +85,10 @@ pub fn masked_entries(
     index_bit: usize,
     j: usize,
 ) -> u64
-    requires { ⌜ PickThere (picksAt validity bit «index_data» w «index_validity» «index_bit») j ⌝ }
-    requires { ⌜ EntriesThere ow (now offsets) (isShown (picksAt validity bit «index_data» w «index_validity» «index_bit») j)
-        (pick (picksAt validity bit «index_data» w «index_validity» «index_bit») j) ⌝ }
-    ensures { λ r. ⌜ r ≡ pickedEntries ow (now (offsets .entry)) (picksAt (validity .entry) bit («index_data» .entry) w («index_validity» .entry) «index_bit») j ⌝ }
+    requires { ⌜ SelectionThere (selectionAt validity bit «index_data» w «index_validity» «index_bit») j ⌝ }
+    requires { ⌜ EntriesThere ow (now offsets) (isShown (selectionAt validity bit «index_data» w «index_validity» «index_bit») j)
+        (rowNumber (selectionAt validity bit «index_data» w «index_validity» «index_bit») j) ⌝ }
+    ensures { λ r. ⌜ r ≡ selectedEntries ow (now (offsets .entry)) (selectionAt (validity .entry) bit («index_data» .entry) w («index_validity» .entry) «index_bit») j ⌝ }
 {
     let taken = masked_row(validity, bit, index_data, w, index_validity, index_bit, j);
     entries_of(offsets, ow, taken)

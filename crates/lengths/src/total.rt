@@ -8,8 +8,8 @@ ghost use Prim.Native.Nat.{suc, _*_, _≤_};
 ghost use lib.ListN.{length};
 ghost use Rattle.bits.specs.Sequences.{sum};
 ghost use Rattle.bits.specs.Bytes.{overwrite};
-ghost use Rattle.lengths.specs.Entries.{picksAt};
-ghost use Rattle.lengths.specs.Totals.{pickedEntries, shownEntries, PickedThere, ShownThere, CountedTo, totalBytes};
+ghost use Rattle.lengths.specs.Entries.{selectionAt};
+ghost use Rattle.lengths.specs.Totals.{selectedEntries, shownEntries, SelectedThere, ShownThere, CountedTo, totalBytes};
 
 // An output row, or their count, and the running total before and after it.
 pub struct Counted {
@@ -35,8 +35,8 @@ pub fn sum_entries(
     index_validity: &[u8],
     at: Places,
 ) -> u64
-    requires { ⌜ PickedThere ow (now offsets) (picksAt validity (at .bit) «index_data» w «index_validity» (at .«index_bit»)) (at .count) ⌝ }
-    ensures { λ r. ⌜ r ≡ sum (at .count) (pickedEntries ow (now (offsets .entry)) (picksAt (validity .entry) (at .bit) («index_data» .entry) w («index_validity» .entry) (at .«index_bit»))) ⌝ }
+    requires { ⌜ SelectedThere ow (now offsets) (selectionAt validity (at .bit) «index_data» w «index_validity» (at .«index_bit»)) (at .count) ⌝ }
+    ensures { λ r. ⌜ r ≡ sum (at .count) (selectedEntries ow (now (offsets .entry)) (selectionAt (validity .entry) (at .bit) («index_data» .entry) w («index_validity» .entry) (at .«index_bit»))) ⌝ }
 {
     let bit = at.bit;
     let index_bit = at.index_bit;
@@ -71,9 +71,9 @@ pub fn count_entries(
     at: Places,
     most: u64,
 ) -> Counted
-    requires { ⌜ PickedThere ow (now offsets) (picksAt validity (at .bit) «index_data» w «index_validity» (at .«index_bit»)) (at .count) ⌝ }
+    requires { ⌜ SelectedThere ow (now offsets) (selectionAt validity (at .bit) «index_data» w «index_validity» (at .«index_bit»)) (at .count) ⌝ }
     ensures { λ r. ⌜ CountedTo most
-        (pickedEntries ow (now (offsets .entry)) (picksAt (validity .entry) (at .bit) («index_data» .entry) w («index_validity» .entry) (at .«index_bit»))) (at .count) r ⌝ }
+        (selectedEntries ow (now (offsets .entry)) (selectionAt (validity .entry) (at .bit) («index_data» .entry) w («index_validity» .entry) (at .«index_bit»))) (at .count) r ⌝ }
 {
     let bit = at.bit;
     let index_bit = at.index_bit;

@@ -21,9 +21,9 @@ use Rattle.bits.proofs.Sequences.{sum-cong, sum-mono, sum-zero, first-cong, fir
 use Rattle.tables.proofs.Views.{kindAt-number}
 use Rattle.gathers.proofs.VariableRows.{taken-below, entries-null, total-small, overflow-narrow, overflow-wide, variable-fit, variable-over}
 use Rattle.lengths.specs.declared.total.Counted.{Counted}
-use Rattle.lengths.specs.Totals.{pickedEntries, CountedTo}
+use Rattle.lengths.specs.Totals.{selectedEntries, CountedTo}
 use Rattle.variable.specs.Measured.{largestOffset}
-use Rattle.variable.proofs.Reading.{picksOf, isTaken, picked-entries, picked-sum}
+use Rattle.variable.proofs.Reading.{selectionOf, isTaken, selected-entries, selected-sum}
 
 module _ {u : ℕ} {c : Column} {x : IndexColumn} (r : Ready c x) (e : layoutAt c ≡ VariableWidth u) where
   abbrev w : ℕ
@@ -68,9 +68,9 @@ module _ {u : ℕ} {c : Column} {x : IndexColumn} (r : Ready c x) (e : layoutAt 
       go j h false d = entries-null c x u j d
 
   -- the sum as it is read
-  module _ {s : ℕ} (d : s ≡ sum count (pickedEntries w (c .offsets) (picksOf c x))) where
+  module _ {s : ℕ} (d : s ≡ sum count (selectedEntries w (c .offsets) (selectionOf c x))) where
     sum-read : s ≡ sum count E
-    sum-read = d ∙ picked-sum r e
+    sum-read = d ∙ selected-sum r e
 
     pub bytes-fit : s * u < 2 ^ 64
     bytes-fit = rw sum-read (omega (arith, total-small c x u e r count (le-refl count) .1))
@@ -80,9 +80,9 @@ module _ {u : ℕ} {c : Column} {x : IndexColumn} (r : Ready c x) (e : layoutAt 
       sum-fit l = fits sum-read (omega (arith, m))
 
       -- where it is above, so is some total: the count stops at the row of refusal 6
-      module _ (l : most < s) {p : Counted} (k : CountedTo most (pickedEntries w (c .offsets) (picksOf c x)) count p) where
-        totals : (i : ℕ) → sum i (pickedEntries w (c .offsets) (picksOf c x)) ≡ sum i E
-        totals i = sum-cong i (λ j h. picked-entries u c x j)
+      module _ (l : most < s) {p : Counted} (k : CountedTo most (selectedEntries w (c .offsets) (selectionOf c x)) count p) where
+        totals : (i : ℕ) → sum i (selectedEntries w (c .offsets) (selectionOf c x)) ≡ sum i E
+        totals i = sum-cong i (λ j h. selected-entries u c x j)
 
         place : p .place ≡ first count (over most)
         place = k .there ∙ first-cong count (λ j h. ap (ltb most) (totals (suc j)))

@@ -24,13 +24,13 @@ use Rattle.tables.proofs.Offsets.{VariableFacts, rises}
 use Rattle.tables.proofs.Views.{offsetAt-number}
 use Rattle.gathers.proofs.Buffers.{valid-below, validates-bit, valid-null, valid-by-bit, valid-by-index, bit-named}
 use Rattle.gathers.proofs.VariableRows.{ready-facts, taken-below, entries-valid, entries-null, total-small}
-use Rattle.lengths.specs.Entries.{Picks, pick, isPicked, isShown, entriesAt, PickThere, EntriesThere}
-use Rattle.lengths.specs.Totals.{pickedEntries, shownEntries, PickedThere, ShownThere}
+use Rattle.lengths.specs.Entries.{Selection, rowNumber, isSelected, isShown, entriesAt, SelectionThere, EntriesThere}
+use Rattle.lengths.specs.Totals.{selectedEntries, shownEntries, SelectedThere, ShownThere}
 use Rattle.lengths.proofs.Masking.{entriesAt-valid, entriesAt-null}
 
 -- what is read before anything is written
-abbrev pub picksOf : Column → IndexColumn → Picks
-picksOf c x = record {
+abbrev pub selectionOf : Column → IndexColumn → Selection
+selectionOf c x = record {
   validity = c .validity;
   bit = c .table .«validity_bit»;
   indexData = x .«data»;
@@ -54,7 +54,7 @@ valid-named v b x j e = go (eqb (length v) 0) refl
         let n : (length v ≡ 0 → ⊥) = λ z. let k : _≡_ {A = Bool} true false = sym (eq-eqb (length v) 0 z) ∙ d in let o : _≡_ {A = ℕ} 0 1 = cc in omega arith in
         valid-by-bit v b x j n ∙ bit-named v b x j e ∙ sym (validAt-present v b (index x j) n)
 
-shown-taken : (c : Column) (x : IndexColumn) (j : ℕ) → isShown (picksOf c x) j ≡ isTaken c x j
+shown-taken : (c : Column) (x : IndexColumn) (j : ℕ) → isShown (selectionOf c x) j ≡ isTaken c x j
 shown-taken c x j = rw (← index-valid x j, ← index-number x j) (go (indexValid x j) refl)
   where
     go : (t : Bool) → indexValid x j ≡ t → (t && validAt (c .validity) (c .table .«validity_bit») (index x j)) ≡ isTaken c x j
@@ -75,8 +75,8 @@ module _ (u : ℕ) (c : Column) (x : IndexColumn) (j : ℕ) where
           ∙ rw (e, ← offsetAt-number c (suc (index x j)), ← offsetAt-number c (index x j)) (sym (entries-valid c x u j f))
       go false f = entriesAt-null w (c .offsets) n (d ∙ f) ∙ sym (entries-null c x u j f)
 
-  pub picked-entries : pickedEntries w (c .offsets) (picksOf c x) j ≡ takenEntries c x j
-  picked-entries = entries-by (shown-taken c x j) (sym (index-number x j))
+  pub selected-entries : selectedEntries w (c .offsets) (selectionOf c x) j ≡ takenEntries c x j
+  selected-entries = entries-by (shown-taken c x j) (sym (index-number x j))
 
   pub shown-entries : {s : List ℕ} → Validates (c .validity) (c .table .«validity_bit») x s → j < x .indices .count
       → shownEntries w (c .offsets) (x .indices .width) (x .«data») s j ≡ takenEntries c x j
@@ -109,30 +109,30 @@ module _ {u : ℕ} {c : Column} {x : IndexColumn} (r : Ready c x) (e : layoutAt 
   }
 
   -- the bit of the row that a valid index names, else of row 0
-  pick-there : 0 < c .table .rows → (j : ℕ) → j < x .indices .count → PickThere (picksOf c x) j
-  pick-there some j h = record {
+  selection-there : 0 < c .table .rows → (j : ℕ) → j < x .indices .count → SelectionThere (selectionOf c x) j
+  selection-there some j h = record {
     numberWidth = index-facts .width;
     number = index-there x index-facts j h .1;
-    picked = index-valid-there x index-facts j h;
-    shown = λ p. row-valid-there c (formed c (r .column)) (pick (picksOf c x) j * bitValue (isPicked (picksOf c x) j)) below p;
+    selected = index-valid-there x index-facts j h;
+    shown = λ p. row-valid-there c (formed c (r .column)) (rowNumber (selectionOf c x) j * bitValue (isSelected (selectionOf c x) j)) below p;
   }
     where
-      below : pick (picksOf c x) j * bitValue (isPicked (picksOf c x) j) < c .table .rows
-      below = go (isPicked (picksOf c x) j) refl
+      below : rowNumber (selectionOf c x) j * bitValue (isSelected (selectionOf c x) j) < c .table .rows
+      below = go (isSelected (selectionOf c x) j) refl
         where
-          go : (t : Bool) → isPicked (picksOf c x) j ≡ t → pick (picksOf c x) j * bitValue t < c .table .rows
-          go true d = rw (mul-one (pick (picksOf c x) j), ← index-number x j) (valid-below (c .table .rows) x (r .indices) j h (index-valid x j ∙ d))
-          go false d = rw (mul-zero (pick (picksOf c x) j)) some
+          go : (t : Bool) → isSelected (selectionOf c x) j ≡ t → rowNumber (selectionOf c x) j * bitValue t < c .table .rows
+          go true d = rw (mul-one (rowNumber (selectionOf c x) j), ← index-number x j) (valid-below (c .table .rows) x (r .indices) j h (index-valid x j ∙ d))
+          go false d = rw (mul-zero (rowNumber (selectionOf c x) j)) some
 
-  pub picked-sum : sum (x .indices .count) (pickedEntries (c .table .«offset_width») (c .offsets) (picksOf c x)) ≡ sum (x .indices .count) (takenEntries c x)
-  picked-sum = sum-cong (x .indices .count) (λ j h. picked-entries u c x j)
+  pub selected-sum : sum (x .indices .count) (selectedEntries (c .table .«offset_width») (c .offsets) (selectionOf c x)) ≡ sum (x .indices .count) (takenEntries c x)
+  selected-sum = sum-cong (x .indices .count) (λ j h. selected-entries u c x j)
 
-  pub picked-there : 0 < c .table .rows → PickedThere (c .table .«offset_width») (c .offsets) (picksOf c x) (x .indices .count)
-  picked-there some = record {
+  pub selected-there : 0 < c .table .rows → SelectedThere (c .table .«offset_width») (c .offsets) (selectionOf c x) (x .indices .count)
+  selected-there some = record {
     few = omega (arith, index-facts .count);
-    picks = pick-there some;
-    entries = λ j h. entries-there (isShown (picksOf c x) j) (pick (picksOf c x) j) (taken-row j h (shown-taken c x j));
-    small = rw picked-sum (omega (arith, total-small c x u e r (x .indices .count) (omega arith) .0));
+    selection = selection-there some;
+    entries = λ j h. entries-there (isShown (selectionOf c x) j) (rowNumber (selectionOf c x) j) (taken-row j h (shown-taken c x j));
+    small = rw selected-sum (omega (arith, total-small c x u e r (x .indices .count) (omega arith) .0));
   }
 
   -- by the validity that is written

@@ -12,8 +12,8 @@ ghost use Rattle.bits.specs.Sequences.{concat, sum};
 ghost use Rattle.bits.specs.Bytes.{overwrite};
 ghost use Rattle.bits.specs.Numbers.{isNumberWidth};
 ghost use Rattle.tables.specs.Kinds.{isOffsetWidth};
-ghost use Rattle.lengths.specs.Entries.{picksAt};
-ghost use Rattle.lengths.specs.Totals.{pickedEntries, shownEntries, PickedThere, ShownThere, totalBytes};
+ghost use Rattle.lengths.specs.Entries.{selectionAt};
+ghost use Rattle.lengths.specs.Totals.{selectedEntries, shownEntries, SelectedThere, ShownThere, totalBytes};
 ghost use Rattle.rows.specs.Rows.{sourcesAt, rowAt, rowBytes, CopyReady};
 
 // The sum has a loop for each pair of widths: it waits for nothing else.
@@ -27,8 +27,8 @@ pub fn sum_by_width(
     at: Places,
 ) -> u64
     requires { ⌜ (isOffsetWidth ow ≡ true) × (isNumberWidth w ≡ true) ⌝ }
-    requires { ⌜ PickedThere ow (now offsets) (picksAt validity (at .bit) «index_data» w «index_validity» (at .«index_bit»)) (at .count) ⌝ }
-    ensures { λ r. ⌜ r ≡ sum (at .count) (pickedEntries ow (now (offsets .entry)) (picksAt (validity .entry) (at .bit) («index_data» .entry) w («index_validity» .entry) (at .«index_bit»))) ⌝ }
+    requires { ⌜ SelectedThere ow (now offsets) (selectionAt validity (at .bit) «index_data» w «index_validity» (at .«index_bit»)) (at .count) ⌝ }
+    ensures { λ r. ⌜ r ≡ sum (at .count) (selectedEntries ow (now (offsets .entry)) (selectionAt (validity .entry) (at .bit) («index_data» .entry) w («index_validity» .entry) (at .«index_bit»))) ⌝ }
 {
     if ow == 4 {
         return match w {

@@ -2,14 +2,14 @@
 -- Assumes nothing.
 use Prim.Native.Nat.{_-_}
 use native.Mathlib.Omega.{arith}
-use Rattle.lengths.specs.Totals.{pickedEntries}
-use Rattle.lengths.proofs.Running.{picksOf, summed-fits, Counting, counting-none, counting-next, counting-stop, counting-end}
+use Rattle.lengths.specs.Totals.{selectedEntries}
+use Rattle.lengths.proofs.Running.{selectionOf, summed-fits, Counting, counting-none, counting-next, counting-stop, counting-end}
 use Rattle.lengths.proofs.total.count_entries.Statement.{statement}
 use Rattle.lengths.proofs.total.count_entries.Tie as tie
 
 abbrev Inv-loop : tie.InvT-loop
 Inv-loop offsets ow validity index-data w index-validity most bit index-bit count total₀ j₀ total j =
-    Counting most (pickedEntries ow offsets (picksOf validity bit index-data w index-validity index-bit)) count total j
+    Counting most (selectedEntries ow offsets (selectionOf validity bit index-data w index-validity index-bit)) count total j
 
 abbrev μ-loop : tie.MeasureT-loop
 μ-loop offsets ow validity index-data w index-validity most bit index-bit count total₀ j₀ total j =
@@ -19,7 +19,7 @@ loop-holds : tie.Need-loop-holds Inv-loop μ-loop
 loop-holds c = counting-none _ _ _
 
 masked-entries-requires : tie.Need-masked-entries-requires Inv-loop μ-loop
-masked-entries-requires c κs = let f = c .before .before .before .before .before .before in (f .pre .picks _ (c .loop-test .taken), f .pre .entries _ (c .loop-test .taken))
+masked-entries-requires c κs = let f = c .before .before .before .before .before .before in (f .pre .selection _ (c .loop-test .taken), f .pre .entries _ (c .loop-test .taken))
 
 add-after : tie.Need-add-after Inv-loop μ-loop
 add-after c = record { fits = summed-fits (c .before .before .loop .inv .summed) (c .before .loop-test .taken) (c .masked-entries .ensures) (c .before .before .before .before .before .before .before .pre .small) }

@@ -1,6 +1,6 @@
 -- `variable::total::measure_variable` meets its contract: a sum that fits has no row of refusal 6 on the way; else the count stops at that row. Assumes nothing.
 use native.Mathlib.Omega.{arith}
-use Rattle.variable.proofs.Reading.{facts, index-facts, picked-there}
+use Rattle.variable.proofs.Reading.{facts, index-facts, selected-there}
 use Rattle.variable.proofs.Measuring.{no-rows, bytes-fit, sum-fit, sum-over}
 use borrow.Author.Needs.{needs}
 use Rattle.variable.proofs.total.measure_variable.Statement.{statement}
@@ -13,7 +13,7 @@ largest-offset-requires : tie.Need-largest-offset-requires
 largest-offset-requires c κs = search needs
 
 sum-by-width-requires : tie.Need-sum-by-width-requires
-sum-by-width-requires c κs = let p = c .before .before .before .before .before .before .before .before .pre in ((facts (p .0) (p .1) .width, index-facts (p .0) (p .1) .width), picked-there (p .0) (p .1) (omega (arith, c .before .if1 .left)))
+sum-by-width-requires c κs = let p = c .before .before .before .before .before .before .before .before .pre in ((facts (p .0) (p .1) .width, index-facts (p .0) (p .1) .width), selected-there (p .0) (p .1) (omega (arith, c .before .if1 .left)))
 
 mul-t22 : tie.Need-mul-t22
 mul-t22 c = let p = c .before .before .before .before .before .before .before .before .before .before .pre in record { fits = bytes-fit (p .0) (p .1) (c .before .sum-by-width .ensures) }
@@ -22,7 +22,7 @@ returns-2 : tie.Need-returns-2
 returns-2 c = let p = c .before .before .before .before .before .before .before .before .before .before .pre in sum-fit (p .0) (p .1) (c .before .sum-by-width .ensures) (c .before .before .largest-offset .ensures) (c .if2 .taken)
 
 count-entries-requires : tie.Need-count-entries-requires
-count-entries-requires c κs = let p = c .before .before .before .before .before .before .before .before .before .before .pre in picked-there (p .0) (p .1) (omega (arith, c .before .before .before .if1 .left))
+count-entries-requires c κs = let p = c .before .before .before .before .before .before .before .before .before .before .pre in selected-there (p .0) (p .1) (omega (arith, c .before .before .before .if1 .left))
 
 kind-of-requires : tie.Need-kind-of-requires
 kind-of-requires c κs = search needs
