@@ -5,7 +5,8 @@ use Prim.Native.Nat.{ℕ, _+_, _-_, _≤_, _<_}
 use native.Mathlib.Omega.{arith}
 use lib.ListN.{length, take, drop, length-drop}
 use lib.Seq.{length-take-le, drop-drop, take-append-add, drop-append-add}
-use Rattle.bits.specs.Bytes.{part, overwrite, overwriteAt}
+use Rattle.bits.specs.Bytes.{part, overwrite}
+use Rattle.bits.specs.Routines.{overwriteAt}
 use Rattle.bits.specs.Numbers.{littleEndian, toLittleEndian}
 use Rattle.bits.proofs.Numbers.{AllBytes, toLittleEndian-part}
 use Rattle.bits.proofs.Copies.{copied-more, copied-also}

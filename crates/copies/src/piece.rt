@@ -11,7 +11,8 @@ ghost use mathlib.Core.Path.{_≡_};
 ghost use mathlib.Core.Bool.{true};
 ghost use Prim.Native.Nat.{_+_, _≤_};
 ghost use lib.ListN.{length};
-ghost use Rattle.bits.specs.Bytes.{part, overwriteAt};
+ghost use Rattle.bits.specs.Bytes.{part};
+ghost use Rattle.bits.specs.Routines.{overwriteAt};
 ghost use Rattle.bits.specs.Numbers.{littleEndian, toLittleEndian, isNumberWidth};
 
 // The number of the w bytes at p.

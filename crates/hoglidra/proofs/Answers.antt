@@ -4,7 +4,8 @@ use mathlib.Core.List.{List, _++_}
 use Prim.Native.Nat.{ℕ}
 use native.Mathlib.Omega.{arith}
 use lib.ListN.{length, length-append}
-use Rattle.bits.specs.Bytes.{overwrite, overwriteAt}
+use Rattle.bits.specs.Bytes.{overwrite}
+use Rattle.bits.specs.Routines.{overwriteAt}
 use Rattle.bits.specs.Numbers.{toLittleEndian}
 use Rattle.bits.proofs.Bytes.{overwrite-tail}
 use Rattle.tables.specs.declared.refusal.Answer.{Answer}

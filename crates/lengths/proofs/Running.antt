@@ -10,7 +10,8 @@ use lib.ListN.{length}
 use borrow.Author.Count.{below-more}
 use borrow.Author.Tests.{lt-ltb, le-ltb}
 use Rattle.bits.specs.Sequences.{sum}
-use Rattle.bits.specs.Bytes.{overwrite, overwriteAt}
+use Rattle.bits.specs.Bytes.{overwrite}
+use Rattle.bits.specs.Routines.{overwriteAt}
 use Rattle.bits.specs.Numbers.{toLittleEndian}
 use Rattle.bits.proofs.Bytes.{overwrite-tail, block-inside}
 use Rattle.bits.proofs.Numbers.{length-toLittleEndian}

@@ -11,7 +11,8 @@ use lib.ListN.{length, take, drop, replicate, length-append, length-replicate}
 use lib.Pow.{mod-mod-pow, field}
 use lib.Seq.{length-take-le, take-take, take-append-le, take-append-add, drop-append-add, drop-drop, take-at}
 use borrow.Author.Tests.{leb-true, ltb-true, lt-ltb, le-ltb}
-use Rattle.bits.specs.Bytes.{part, overwrite, overwriteAt}
+use Rattle.bits.specs.Bytes.{part, overwrite}
+use Rattle.bits.specs.Routines.{overwriteAt}
 use Rattle.bits.specs.Numbers.{littleEndian, toLittleEndian}
 use Rattle.bits.proofs.Tests.{and-true, and-false-right}
 use Rattle.bits.proofs.Numbers.{AllBytes, toLittleEndian-part}

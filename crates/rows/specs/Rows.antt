@@ -6,7 +6,8 @@ use mathlib.Core.List.{List}
 use lib.ListN.{length, take, drop}
 use denote.Ref.{RefT, now}
 use Rattle.bits.specs.Sequences.{concat}
-use Rattle.bits.specs.Bytes.{part, overwriteAt}
+use Rattle.bits.specs.Bytes.{part}
+use Rattle.bits.specs.Routines.{overwriteAt}
 use Rattle.bits.specs.Numbers.{numberAt, isNumberWidth}
 use Rattle.bits.specs.Bits.{bitAt, bytesFor}
 use Rattle.rows.specs.Front.{frontBytes}

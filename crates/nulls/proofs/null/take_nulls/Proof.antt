@@ -4,7 +4,8 @@ use mathlib.Core.List.{List}
 use Prim.Native.Nat.{ℕ}
 use native.Mathlib.Omega.{arith}
 use Rattle.bits.specs.Bytes.{overwrite}
-use Rattle.bits.specs.Bits.{bytesFor, setBits}
+use Rattle.bits.specs.Bits.{bytesFor}
+use Rattle.bits.specs.Routines.{setBits}
 use Rattle.tables.specs.Columns.{indexColumnAt}
 use Rattle.gathers.specs.Buffers.{takenBitValid}
 use Rattle.tables.proofs.Facts.{index-formed}
