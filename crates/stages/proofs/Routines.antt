@@ -1,7 +1,7 @@
 -- What a column and an index column that passed refusals 1 to 5 give to the routine of each kind, and what the routine then has written. Assumes nothing.
-use mathlib.Core.Path.{_≡_, sym, _∙_}
+use mathlib.Core.Path.{_≡_, refl, sym, _∙_}
 use mathlib.Core.Bool.{Bool, false, not, _&&_, true≢false}
-use mathlib.Core.List.{List}
+use mathlib.Core.List.{List, [], _∷_}
 use Prim.Native.Nat.{ℕ, _+_, _*_, _≤_}
 use native.Mathlib.Nat.{mul-le-mul}
 use lib.Dec.{ltb}
@@ -11,7 +11,7 @@ use Rattle.bits.specs.Sequences.{concat, sum}
 use Rattle.bits.specs.Bytes.{overwrite}
 use Rattle.bits.specs.Bits.{bitValue, bytesFor, pack, isAbsent}
 use Rattle.tables.specs.declared.table.Kind.{Kind}
-use Rattle.tables.specs.declared.table.Kind.the-variants.{Unknown}
+use Rattle.tables.specs.declared.table.Kind.the-variants.{Primitive, Boolean, VariableBytes, List as ListKind, FixedSizeList, FixedSizeBinary, Unknown}
 use Rattle.tables.specs.declared.table.Layout.the-variants.{FixedWidth, BitMap}
 use Rattle.tables.specs.Kinds.{kindOf, layoutOf, copiesUnderNull}
 use Rattle.tables.specs.Columns.{Column, IndexColumn, kindAt, layoutAt}
@@ -24,13 +24,26 @@ use Rattle.gathers.specs.Ready.{Ready}
 use Rattle.gathers.specs.Buffers.{takenBit, takenBitValid, takenBlock}
 use Rattle.bitmaps.specs.Reach.{HoldsBits}
 use Rattle.blocks.specs.Blocked.{Blocked}
+use denote.Enum.Declared.{tagOf}
+use types.Run.{OneOf, miss}
 use Rattle.bits.proofs.Tests.{or-false}
+use Rattle.tables.proofs.table.Kind.{the-type}
 use Rattle.tables.proofs.Bounds.{fits-at}
 use Rattle.tables.proofs.Facts.{Formed, formed, IndexFormed, index-formed}
 use Rattle.tables.proofs.Stages.{sized-row-fits, sized-bounds, well-formed-sized}
 use Rattle.tables.proofs.Views.{kindAt-number, layoutAt-kind}
 use Rattle.gathers.proofs.Buffers.{validity-by-buffer, nulls-by-buffer, blocks-by-buffer, bits-by-buffer}
 use Rattle.gathers.proofs.Lengths.{blocks-length, bits-length, offsets-of-blocks, offsets-of-bits}
+
+-- the kind that is left after the first five, by the number of its variant
+last-kind : (k : Kind) → (k ≡ Unknown → ⊥) → OneOf (5 ∷ 6 ∷ []) (tagOf the-type k) → k ≡ FixedSizeBinary
+last-kind Primitive u t = absurd (miss (5 ∷ 6 ∷ []) 0 tt t)
+last-kind Boolean u t = absurd (miss (5 ∷ 6 ∷ []) 1 tt t)
+last-kind VariableBytes u t = absurd (miss (5 ∷ 6 ∷ []) 2 tt t)
+last-kind ListKind u t = absurd (miss (5 ∷ 6 ∷ []) 3 tt t)
+last-kind FixedSizeList u t = absurd (miss (5 ∷ 6 ∷ []) 4 tt t)
+last-kind FixedSizeBinary u t = refl
+last-kind Unknown u t = absurd (u refl)
 
 -- the kind and the layout, as the code finds them
 module _ (c : Column) where
@@ -43,8 +56,11 @@ module _ (c : Column) where
   pub under-null-by : {k : Kind} → kindAt c ≡ k → copiesUnderNull (kindAt c) (c .table .size) ≡ copiesUnderNull k (c .table .size)
   under-null-by e = rw e
 
-  pub known : WellFormed c → kindAt c ≡ Unknown → ⊥
+  known : WellFormed c → kindAt c ≡ Unknown → ⊥
   known w e = true≢false (rw e at (formed c w .goodKind))
+
+  pub sixth : WellFormed c → (k : Kind) → k ≡ kindOf (c .table .kind) → OneOf (5 ∷ 6 ∷ []) (tagOf the-type k) → kindAt c ≡ FixedSizeBinary
+  sixth w k e t = kind-told e (last-kind k (λ f. known w (kind-told e f)) t)
 
 module _ (c : Column) (x : IndexColumn) (r : Ready c x) where
   pub ready-row-fits : {k : Kind} → k ≡ kindOf (c .table .kind) → RowFits k (c .table)

@@ -104,7 +104,8 @@ pub fn take_values(
             index_validity,
             out_data,
         ),
-        Kind::FixedSizeBinary => {
+        // an unknown kind was refused, so the sixth is left
+        _ => {
             take_fixed_size_binary(
                 data,
                 size,
@@ -116,6 +117,5 @@ pub fn take_values(
                 out_data,
             )
         }
-        Kind::Unknown => {}
     }
 }

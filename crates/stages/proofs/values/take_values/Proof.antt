@@ -1,7 +1,7 @@
 -- `stages::«data»::take_values` meets its contract: each arm by the kind that led to it. Assumes nothing.
 use mathlib.Core.Bool.{true, false}
 use borrow.Author.Needs.{needs}
-use Rattle.stages.proofs.Routines.{kind-told, layout-by, under-null-by, known, blocked, blocks-stored, blocks-keep, data-held, bits-room, bits-stored, bits-keep}
+use Rattle.stages.proofs.Routines.{kind-told, layout-by, under-null-by, sixth, blocked, blocks-stored, blocks-keep, data-held, bits-room, bits-stored, bits-keep}
 use Rattle.stages.proofs.values.take_values.Statement.{statement}
 use Rattle.stages.proofs.values.take_values.Tie as tie
 
@@ -68,18 +68,12 @@ take-fixed-size-list-primitive-requires c κs =
     let e = layout-by _ (kind-told _ (k .kind-of .ensures) (c .before .enum-told5 .given .1)) in
     blocked _ _ (p .0) _ e (p .1 .0 .1)
 
-enum-told-6 : tie.Need-enum-told-6
-enum-told-6 c = search needs
-
 take-fixed-size-binary-requires : tie.Need-take-fixed-size-binary-requires
 take-fixed-size-binary-requires c κs =
-    let k = c .before .before .before in
+    let k = c .before .before in
     let p = k .before .before .before .before .before .before .before .before .before .pre in
-    let e = layout-by _ (kind-told _ (k .kind-of .ensures) (c .before .enum-told6 .given .1)) in
+    let e = layout-by _ (sixth _ (p .0 .column) (k .kind-of .result) (k .kind-of .ensures) (c .before .match .keys6)) in
     (blocked _ _ (p .0) _ e (p .1 .0 .1), p .1 .1 .0)
-
-enum-told-7 : tie.Need-enum-told-7
-enum-told-7 c = search needs
 
 same-length : tie.Need-same-length
 same-length c = search needs
@@ -134,15 +128,10 @@ same-length-8 c = search needs
 
 returns-6 : tie.Need-returns-6
 returns-6 c =
-    let k = c .before .before .before .before .before .before in
+    let k = c .before .before .before .before .before in
     let p = k .before .before .before .before .before .before .before .before .before .pre in
-    let e = kind-told _ (k .kind-of .ensures) (c .before .before .before .before .enum-told6 .given .1) in
+    let e = sixth _ (p .0 .column) (k .kind-of .result) (k .kind-of .ensures) (c .before .before .before .before .match .keys6) in
     (blocks-keep _ _ (p .0) _ (layout-by _ e) _, blocks-stored _ _ (p .0) _ (layout-by _ e) _ _ (under-null-by _ e) (c .before .before .take-fixed-size-binary .ensures))
-
-returns-7 : tie.Need-returns-7
-returns-7 c =
-    let k = c .before .before in
-    absurd (known _ (k .before .before .before .before .before .before .before .before .before .pre .0 .column) (kind-told _ (k .kind-of .ensures) (c .enum-told7 .given .1)))
 
 pub take-values-spec : {M : Type 1} → statement M
 take-values-spec =
@@ -159,9 +148,7 @@ take-values-spec =
     take-list-requires
     enum-told-5
     take-fixed-size-list-primitive-requires
-    enum-told-6
     take-fixed-size-binary-requires
-    enum-told-7
     same-length
     returns
     same-length-2
@@ -175,5 +162,4 @@ take-values-spec =
     same-length-7
     returns-5
     same-length-8
-    returns-6
-    returns-7)
+    returns-6)
