@@ -7,7 +7,7 @@ use lib.Dec.{ltb}
 use lib.ListN.{length, length-set}
 use Rattle.bits.specs.Bytes.{overwrite}
 use Rattle.bits.specs.Bits.{bytesFor, packBytes}
-use Rattle.tables.specs.Columns.{indexColumnAt}
+use Rattle.tables.specs.Columns.{indexColumnAt, indexDescription}
 use Rattle.gathers.specs.Buffers.{takenBit}
 use Rattle.bits.proofs.Packing.{bytes-none, byte-more, byte-part, bytes-end}
 use Rattle.bitmaps.proofs.Reading.{valid-there, byte-reached, byte-taken}
@@ -17,7 +17,7 @@ use Rattle.bitmaps.proofs.bit.take_reached.Tie as tie
 abbrev Inv-loop : tie.InvT-loop
 Inv-loop src bit-offset index-data index-validity out₀ count validity-bit w whole k₀ out k =
     (k ≤ whole)
-    × (out ≡ overwrite (packBytes k (λ p. ltb p count && takenBit src bit-offset (record { indices = record { width = w; count = count; «validity_bit» = validity-bit }; «data» = index-data; validity = index-validity }) p)) out₀)
+    × (out ≡ overwrite (packBytes k (λ p. ltb p count && takenBit src bit-offset (record { indices = indexDescription w count validity-bit; «data» = index-data; validity = index-validity }) p)) out₀)
     × (length out ≡ length out₀)
 
 abbrev μ-loop : tie.MeasureT-loop
