@@ -41,13 +41,6 @@ ends w p n s d {y = y} b h l m e e′ i i′ =
     carried w (p + k) s y b (omega arith) e′ i′
     ∙ rw (front, after) (overwriteAt-after p k (part k w r) (take p d) (overwrite (take w r) t) (length-take-le p d m) ∙ ap (λ (f : List ℕ). take p d ++ f) (both ∙ ap (λ (f : ℕ). overwrite (take f r) t) all))
 
--- twice m bytes, at the front of n and at their end
-pub two : (m n : ℕ) (s d : List ℕ) {a y : List ℕ} → (m ≤ n) × (n ≤ m + m) → n ≤ length s
-    → a ≡ overwriteAt 0 (part 0 m s) d → y ≡ overwriteAt (n - m) (part (n - m) m s) a → y ≡ overwrite (take n s) d
-two m n s d h l i j =
-    let all : n - m + m ≡ n = omega arith in
-    rw (← all) (copied-more m (n - m) m s d (omega arith) (omega arith) (omega arith) i j)
-
 -- four times m bytes, at the front of n, at their end, and each as far from there as q
 pub four : (m q n : ℕ) (s d : List ℕ) {a b e y : List ℕ} → (m < n) × (n ≤ m + m + (m + m)) → n ≤ length s → q ≡ m - (m - (n - m))
     → a ≡ overwriteAt 0 (part 0 m s) d → b ≡ overwriteAt q (part q m s) a → e ≡ overwriteAt (n - m - q) (part (n - m - q) m s) b

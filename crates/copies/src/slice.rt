@@ -35,15 +35,6 @@ fn lesser(a: usize, b: usize) -> usize
     b
 }
 
-// From 16 to 32: two of 16, which may overlap.
-fn copy_pair(src: &[u8], n: usize, dst: &mut [u8])
-    requires { ⌜ (16 ≤ n) × (n ≤ 32) × (n ≤ length (now src)) × (n ≤ length (now dst)) ⌝ }
-    ensures { λ _. ⌜ now (dst .exit) ≡ overwrite (take n (now (src .entry))) (now (dst .entry)) ⌝ }
-{
-    copy_ends(src, dst, 0, 16, 8);
-    copy_ends(src, dst, n - 16, 16, 8);
-}
-
 // From 17 to 64: four of 16, which may overlap.
 fn copy_middle(src: &[u8], n: usize, dst: &mut [u8])
     requires { ⌜ (16 < n) × (n ≤ 64) × (n ≤ length (now src)) × (n ≤ length (now dst)) ⌝ }
@@ -87,18 +78,29 @@ pub fn copy_wide(src: &[u8], n: usize, dst: &mut [u8])
     copy_middle(src, n, dst);
 }
 
-// All of src. Rows of a fixed size are as long as the one before, so that a class more costs no guess.
+// More than 16, all of src: 16 a turn, and a last turn that may overlap the one before it.
+fn copy_turns(src: &[u8], dst: &mut [u8])
+    requires { ⌜ (16 < length (now src)) × (length (now src) ≤ length (now dst)) ⌝ }
+    ensures { λ _. ⌜ now (dst .exit) ≡ overwrite (now (src .entry)) (now (dst .entry)) ⌝ }
+{
+    let n = src.len();
+    let last = n - 16;
+    let mut k = 0;
+    while k < last {
+        copy_ends(src, dst, k, 16, 8);
+        k += 16;
+    }
+    copy_ends(src, dst, last, 16, 8);
+}
+
+// All of src. Rows of a fixed size are as long as the one before, so that turns are guessed, and fewer bytes are stored twice.
 pub fn copy(src: &[u8], dst: &mut [u8])
     requires { ⌜ length (now src) ≤ length (now dst) ⌝ }
     ensures { λ _. ⌜ now (dst .exit) ≡ overwrite (now (src .entry)) (now (dst .entry)) ⌝ }
 {
     let n = src.len();
-    if 32 < n {
-        copy_wide(src, n, dst);
-        return;
-    }
     if 16 < n {
-        copy_pair(src, n, dst);
+        copy_turns(src, dst);
         return;
     }
     if 8 <= n {

@@ -16,7 +16,7 @@ sum-by-width-requires : tie.Need-sum-by-width-requires
 sum-by-width-requires c κs = let p = c .before .before .before .before .before .before .before .before .pre in ((facts (p .0) (p .1) .width, index-facts (p .0) (p .1) .width), selected-there (p .0) (p .1) (omega (arith, c .before .if1 .left)))
 
 mul-t22 : tie.Need-mul-t22
-mul-t22 c = let p = c .before .before .before .before .before .before .before .before .before .before .pre in record { fits = bytes-fit (p .0) (p .1) (c .before .sum-by-width .ensures) }
+mul-t22 c = let p = c .before .before .before .before .before .before .before .before .before .before .pre in omega (arith, bytes-fit (p .0) (p .1) (c .before .sum-by-width .ensures))
 
 returns-2 : tie.Need-returns-2
 returns-2 c = let p = c .before .before .before .before .before .before .before .before .before .before .pre in sum-fit (p .0) (p .1) (c .before .sum-by-width .ensures) (c .before .before .largest-offset .ensures) (c .if2 .taken)
