@@ -8,9 +8,11 @@ use tables::refusal::Refusal;
 use tables::table::Layout;
 use tables::table::Table;
 ghost use mathlib.Core.Path.{_≡_};
-ghost use Prim.Native.Nat.{suc, _+_, _≤_};
+ghost use mathlib.Core.Bool.{true};
+ghost use Prim.Native.Nat.{suc, _+_, _/_, _≤_};
 ghost use Rattle.bits.specs.Sequences.{any, first};
 ghost use Rattle.bits.specs.Numbers.{numberAt};
+ghost use Rattle.tables.specs.Kinds.{isWidth};
 ghost use Rattle.tables.specs.Stages.{checkedNumbers, offsetsRefusal};
 ghost use Rattle.tables.specs.Refusals.{maxBytes, isBad};
 ghost use Rattle.tables.specs.Bounds.{Offsets, Sized, falls, bareColumnAt};
@@ -97,6 +99,21 @@ fn bad_offset(offsets: &[u8], w: usize, rows: usize, most: u64) -> u64
     rows as u64 + 1
 }
 
+// How many entries of `unit` bytes n bytes hold. By literals: a division of 64 bits by any other number is a call on a core of 32 bits.
+fn entries_in(n: u64, unit: u64) -> u64
+    requires { ⌜ isWidth unit ≡ true ⌝ }
+    ensures { λ r. ⌜ r ≡ n / unit ⌝ }
+{
+    match unit {
+        1 => n,
+        2 => n / 2,
+        4 => n / 4,
+        8 => n / 8,
+        16 => n / 16,
+        _ => n / 32,
+    }
+}
+
 // Refusal 4 of a column that passed refusals 1 to 3. A column without offsets passes at once. Of the data only the length is looked at.
 pub fn check_offsets(table: Table, data: &[u8], offsets: &[u8]) -> Checked
     requires { ⌜ Sized (bareColumnAt table «data» offsets) ⌝ }
@@ -108,7 +125,7 @@ pub fn check_offsets(table: Table, data: &[u8], offsets: &[u8]) -> Checked
         Layout::FixedWidth(_) => Checked::Fit,
         Layout::BitMap => Checked::Fit,
         Layout::VariableWidth(unit) => {
-            let most = data.len() as u64 / unit;
+            let most = entries_in(data.len() as u64, unit);
             let place = bad_offset(
                 offsets,
                 table.offset_width as usize,

@@ -20,8 +20,8 @@ enum-told-2 c = search needs
 enum-known-layout : tie.Need-enum-known-layout
 enum-known-layout c = search needs
 
-div-most : tie.Need-div-most
-div-most c =
+entries-in-requires : tie.Need-entries-in-requires
+entries-in-requires c κs =
     let m = c .before .before in
     let k = m .before .before in
     let p = k .before .before .before .pre in
@@ -29,19 +29,19 @@ div-most c =
 
 bad-offset-requires : tie.Need-bad-offset-requires
 bad-offset-requires c κs =
-    let m = c .before .before in
+    let m = c .before .before .before in
     let k = m .before .before in
     let p = k .before .before .before .pre in
-    let e = layout-told _ (k .kind-of .ensures) (m .before .layout-of .ensures) ∙ c .before .layout .given .1 in
-    (variable-offsets _ p _ e, variable-most _ p _ e)
+    let e = layout-told _ (k .kind-of .ensures) (m .before .layout-of .ensures) ∙ c .before .before .layout .given .1 in
+    (variable-offsets _ p _ e, rw (c .entries-in .ensures) (variable-most _ p _ e))
 
 returns : tie.Need-returns
 returns c =
     let b = c .before .before in
-    let m = b .before .before .before in
+    let m = b .before .before .before .before in
     let k = m .before .before in
-    let e = layout-told _ (k .kind-of .ensures) (m .before .layout-of .ensures) ∙ b .before .before .layout .given .1 in
-    offsets-refused _ _ e (b .bad-offset .ensures) (c .if1 .taken)
+    let e = layout-told _ (k .kind-of .ensures) (m .before .layout-of .ensures) ∙ b .before .before .before .layout .given .1 in
+    offsets-refused _ _ e (rw (b .before .entries-in .ensures) at (b .bad-offset .ensures)) (c .if1 .taken)
 
 returns-2 : tie.Need-returns-2
 returns-2 c =
@@ -58,10 +58,10 @@ returns-3 c =
 returns-4 : tie.Need-returns-4
 returns-4 c =
     let b = c .before .before in
-    let m = b .before .before .before in
+    let m = b .before .before .before .before in
     let k = m .before .before in
-    let e = layout-told _ (k .kind-of .ensures) (m .before .layout-of .ensures) ∙ b .before .before .layout .given .1 in
-    offsets-accepted _ _ e (b .bad-offset .ensures) (c .if1 .left)
+    let e = layout-told _ (k .kind-of .ensures) (m .before .layout-of .ensures) ∙ b .before .before .before .layout .given .1 in
+    offsets-accepted _ _ e (rw (b .before .entries-in .ensures) at (b .bad-offset .ensures)) (c .if1 .left)
 
 pub check-offsets-spec : {M : Type 1} → statement M
 check-offsets-spec =
@@ -72,7 +72,7 @@ check-offsets-spec =
     enum-told
     enum-told-2
     enum-known-layout
-    div-most
+    entries-in-requires
     bad-offset-requires
     returns
     returns-2
