@@ -9,13 +9,26 @@ use tables::table::Layout;
 use tables::table::Table;
 ghost use mathlib.Core.Path.{_≡_};
 ghost use mathlib.Core.Bool.{true};
-ghost use Prim.Native.Nat.{suc, _+_, _/_, _≤_};
+ghost use Prim.Native.Nat.{suc, _+_, _*_, _/_, _≤_};
+ghost use lib.ListN.{length};
 ghost use Rattle.bits.specs.Sequences.{any, first};
 ghost use Rattle.bits.specs.Numbers.{numberAt};
-ghost use Rattle.tables.specs.Kinds.{isWidth};
+ghost use Rattle.tables.specs.Kinds.{isWidth, isOffsetWidth};
 ghost use Rattle.tables.specs.Stages.{checkedNumbers, offsetsRefusal};
 ghost use Rattle.tables.specs.Refusals.{maxBytes, isBad};
 ghost use Rattle.tables.specs.Bounds.{Offsets, Sized, falls, bareColumnAt};
+
+// Offset i. The two widths, and not the four of `number_at`: where numbers are read byte by byte the compiler puts only this in line.
+fn offset_at(offsets: &[u8], w: usize, i: usize) -> u64
+    requires { ⌜ isOffsetWidth w ≡ true ⌝ }
+    requires { ⌜ i * w + w ≤ length (now offsets) ⌝ }
+    ensures { λ r. ⌜ r ≡ numberAt w (now (offsets .entry)) i ⌝ }
+{
+    if w == 4 {
+        return number_at(offsets, 4, i);
+    }
+    number_at(offsets, 8, i)
+}
 
 // Some of the eight offsets after offset i is below the one before.
 fn falls_in_eight(offsets: &[u8], w: usize, rows: usize, i: usize) -> bool
@@ -23,15 +36,15 @@ fn falls_in_eight(offsets: &[u8], w: usize, rows: usize, i: usize) -> bool
     requires { ⌜ i + 8 ≤ rows ⌝ }
     ensures { λ r. ⌜ r ≡ any 8 (λ k. falls (numberAt w (now (offsets .entry))) (i + k)) ⌝ }
 {
-    let a = number_at(offsets, w, i);
-    let b = number_at(offsets, w, i + 1);
-    let c = number_at(offsets, w, i + 2);
-    let d = number_at(offsets, w, i + 3);
-    let e = number_at(offsets, w, i + 4);
-    let f = number_at(offsets, w, i + 5);
-    let g = number_at(offsets, w, i + 6);
-    let h = number_at(offsets, w, i + 7);
-    let k = number_at(offsets, w, i + 8);
+    let a = offset_at(offsets, w, i);
+    let b = offset_at(offsets, w, i + 1);
+    let c = offset_at(offsets, w, i + 2);
+    let d = offset_at(offsets, w, i + 3);
+    let e = offset_at(offsets, w, i + 4);
+    let f = offset_at(offsets, w, i + 5);
+    let g = offset_at(offsets, w, i + 6);
+    let h = offset_at(offsets, w, i + 7);
+    let k = offset_at(offsets, w, i + 8);
     (b < a) | (c < b) | (d < c) | (e < d) | (f < e) | (g < f) | (h < g) | (k < h)
 }
 
@@ -48,9 +61,9 @@ fn falls_by(offsets: &[u8], w: usize, rows: usize) -> bool
         i += 8;
     }
     while i < rows {
-        let before = number_at(offsets, w, i);
+        let before = offset_at(offsets, w, i);
         i += 1;
-        if number_at(offsets, w, i) < before {
+        if offset_at(offsets, w, i) < before {
             return true;
         }
     }

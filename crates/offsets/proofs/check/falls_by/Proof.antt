@@ -8,7 +8,7 @@ use borrow.Author.Tests.{lt-ltb, le-ltb}
 use Rattle.bits.specs.Sequences.{any}
 use Rattle.bits.specs.Numbers.{numberAt}
 use Rattle.tables.specs.Bounds.{falls}
-use Rattle.tables.proofs.Scans.{there, falls-found, falls-not, one-test}
+use Rattle.tables.proofs.Scans.{offset-inside, falls-found, falls-not, one-test}
 use Rattle.offsets.proofs.check.falls_by.Statement.{statement}
 use Rattle.offsets.proofs.check.falls_by.Tie as tie
 
@@ -54,21 +54,21 @@ loop-again c =
 loop2-holds : tie.Need-loop2-holds Inv-loop μ-loop Inv-loop2 μ-loop2
 loop2-holds c = c .before .loop .inv
 
-number-at-requires : tie.Need-number-at-requires Inv-loop μ-loop Inv-loop2 μ-loop2
-number-at-requires c κs = there (c .before .before .before .before .before .pre) (c .before .loop2 .i) (omega arith)
+offset-at-requires : tie.Need-offset-at-requires Inv-loop μ-loop Inv-loop2 μ-loop2
+offset-at-requires c κs = offset-inside (c .before .before .before .before .before .pre) (c .before .loop2 .i) (omega arith)
 
 add-i-2 : tie.Need-add-i-2 Inv-loop μ-loop Inv-loop2 μ-loop2
 add-i-2 c = omega arith
 
-number-at-requires-2 : tie.Need-number-at-requires-2 Inv-loop μ-loop Inv-loop2 μ-loop2
-number-at-requires-2 c κs = there (c .before .before .before .before .before .before .pre) (c .before .before .loop2 .i + 1) (omega arith)
+offset-at-requires-2 : tie.Need-offset-at-requires-2 Inv-loop μ-loop Inv-loop2 μ-loop2
+offset-at-requires-2 c κs = offset-inside (c .before .before .before .before .before .before .pre) (c .before .before .loop2 .i + 1) (omega arith)
 
 returns-2 : tie.Need-returns-2 Inv-loop μ-loop Inv-loop2 μ-loop2
 returns-2 c =
     let a = c .before .before .before .before .before .before .before .before .args in
     let l = c .before .before .before .before .loop2 in
     let o : ℕ → ℕ = numberAt (a .w) (a .offsets .now) in
-    sym (falls-found o (l .i) 1 (l .inv .1) (a .rows) (omega arith) (one-test o (l .i) (c .before .before .number-at .ensures) (c .before .number-at2 .ensures) (lt-ltb _ _ (c .if2 .taken))))
+    sym (falls-found o (l .i) 1 (l .inv .1) (a .rows) (omega arith) (one-test o (l .i) (c .before .before .offset-at .ensures) (c .before .offset-at2 .ensures) (lt-ltb _ _ (c .if2 .taken))))
 
 loop2-less : tie.Need-loop2-less Inv-loop μ-loop Inv-loop2 μ-loop2
 loop2-less c = omega arith
@@ -78,7 +78,7 @@ loop2-again c =
     let a = c .before .before .before .before .before .before .before .before .args in
     let l = c .before .before .before .before .loop2 in
     let o : ℕ → ℕ = numberAt (a .w) (a .offsets .now) in
-    (omega arith, falls-not o (l .i) 1 (l .inv .1) (one-test o (l .i) (c .before .before .number-at .ensures) (c .before .number-at2 .ensures) (le-ltb _ _ (c .if2 .left))))
+    (omega arith, falls-not o (l .i) 1 (l .inv .1) (one-test o (l .i) (c .before .before .offset-at .ensures) (c .before .offset-at2 .ensures) (le-ltb _ _ (c .if2 .left))))
 
 returns-3 : tie.Need-returns-3 Inv-loop μ-loop Inv-loop2 μ-loop2
 returns-3 c =
@@ -103,9 +103,9 @@ falls-by-spec =
     loop-less
     loop-again
     loop2-holds
-    number-at-requires
+    offset-at-requires
     add-i-2
-    number-at-requires-2
+    offset-at-requires-2
     returns-2
     loop2-less
     loop2-again
