@@ -66,15 +66,21 @@ struct hoglidra_answer {
    overlap nothing else. Nothing else is asked: every number, length and content is allowed, and what does not fit is refused before an output byte changes.
    Calls may run at once on different outputs and answers, also over the same sources: there is no global state.
 
+   Numbers and lengths have 64 bits on every core, so that a call means the same on each; a size_t needs no cast. Where a pointer has fewer bits, no slice is
+   longer than the core can address: a greater length names bytes that are not there. As the length of a source or index buffer it is beyond the limit, and
+   refused before a byte is read; as that of an output it must not be said. A gather that needs more room than the core can address is refused with 7, and
+   `total` says in full how much that is.
+
    The four numbers go over the first 32 bytes of the answer, 8 bytes each, little-endian; the number is also returned. An answer slice of fewer than 32 bytes
-   gets 7, and nothing is written at all. The call uses less than 2,048 bytes of stack, no heap and no other library. */
+   gets 7, and nothing is written at all. The call uses less than 2,048 bytes of stack and no heap. It calls no other
+   library, but for memcpy and memset on cores that allow no unaligned access (docs/FIRMWARE.md). */
 uint64_t hoglidra_take(
     uint64_t kind, uint64_t width, uint64_t size, uint64_t offset_width, uint64_t rows, uint64_t data_bit, uint64_t validity_bit,
-    const uint8_t *data, size_t data_len, const uint8_t *offsets, size_t offsets_len, const uint8_t *validity, size_t validity_len,
+    const uint8_t *data, uint64_t data_len, const uint8_t *offsets, uint64_t offsets_len, const uint8_t *validity, uint64_t validity_len,
     uint64_t index_width, uint64_t count, uint64_t index_validity_bit,
-    const uint8_t *index_data, size_t index_data_len, const uint8_t *index_validity, size_t index_validity_len,
-    uint8_t *out_validity, size_t out_validity_len, uint8_t *out_offsets, size_t out_offsets_len, uint8_t *out_data, size_t out_data_len,
-    uint8_t *answer, size_t answer_len);
+    const uint8_t *index_data, uint64_t index_data_len, const uint8_t *index_validity, uint64_t index_validity_len,
+    uint8_t *out_validity, uint64_t out_validity_len, uint8_t *out_offsets, uint64_t out_offsets_len, uint8_t *out_data, uint64_t out_data_len,
+    uint8_t *answer, uint64_t answer_len);
 
 /* The four numbers of an answer. */
 static inline struct hoglidra_answer hoglidra_read_answer(const uint8_t bytes[HOGLIDRA_ANSWER_LEN]) {

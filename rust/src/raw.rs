@@ -103,16 +103,16 @@ extern "C" {
     fn hoglidra_take(
         kind: u64, width: u64, size: u64, offset_width: u64, rows: u64,
         data_bit: u64, validity_bit: u64,
-        data: *const u8, data_len: usize,
-        offsets: *const u8, offsets_len: usize,
-        validity: *const u8, validity_len: usize,
+        data: *const u8, data_len: u64,
+        offsets: *const u8, offsets_len: u64,
+        validity: *const u8, validity_len: u64,
         index_width: u64, count: u64, index_validity_bit: u64,
-        index_data: *const u8, index_data_len: usize,
-        index_validity: *const u8, index_validity_len: usize,
-        out_validity: *mut u8, out_validity_len: usize,
-        out_offsets: *mut u8, out_offsets_len: usize,
-        out_data: *mut u8, out_data_len: usize,
-        answer: *mut u8, answer_len: usize,
+        index_data: *const u8, index_data_len: u64,
+        index_validity: *const u8, index_validity_len: u64,
+        out_validity: *mut u8, out_validity_len: u64,
+        out_offsets: *mut u8, out_offsets_len: u64,
+        out_data: *mut u8, out_data_len: u64,
+        answer: *mut u8, answer_len: u64,
     ) -> u64;
 }
 
@@ -124,24 +124,24 @@ extern "C" {
 #[rustfmt::skip]
 pub fn take(call: &Call, output: &mut Output, answer: &mut [u8]) -> u64 {
     // SAFETY: the header asks for three things. Each pointer comes with the length of the slice
-    // that it was taken from, so those bytes may be read, and in the last four slices written,
-    // until the call returns; the pointer of an empty slice is not NULL either. The three outputs
-    // and the answer are borrowed mutably, so they overlap nothing. Every number, length and
-    // content is allowed.
+    // that it was taken from, which 64 bits hold on every core, so those bytes may be read, and in
+    // the last four slices written, until the call returns; the pointer of an empty slice is not
+    // NULL either. The three outputs and the answer are borrowed mutably, so they overlap nothing.
+    // Every number, length and content is allowed.
     unsafe {
         hoglidra_take(
             call.kind, call.width, call.size, call.offset_width, call.rows,
             call.data_bit, call.validity_bit,
-            call.data.as_ptr(), call.data.len(),
-            call.offsets.as_ptr(), call.offsets.len(),
-            call.validity.as_ptr(), call.validity.len(),
+            call.data.as_ptr(), call.data.len() as u64,
+            call.offsets.as_ptr(), call.offsets.len() as u64,
+            call.validity.as_ptr(), call.validity.len() as u64,
             call.index_width, call.count, call.index_validity_bit,
-            call.index_data.as_ptr(), call.index_data.len(),
-            call.index_validity.as_ptr(), call.index_validity.len(),
-            output.validity.as_mut_ptr(), output.validity.len(),
-            output.offsets.as_mut_ptr(), output.offsets.len(),
-            output.data.as_mut_ptr(), output.data.len(),
-            answer.as_mut_ptr(), answer.len(),
+            call.index_data.as_ptr(), call.index_data.len() as u64,
+            call.index_validity.as_ptr(), call.index_validity.len() as u64,
+            output.validity.as_mut_ptr(), output.validity.len() as u64,
+            output.offsets.as_mut_ptr(), output.offsets.len() as u64,
+            output.data.as_mut_ptr(), output.data.len() as u64,
+            answer.as_mut_ptr(), answer.len() as u64,
         )
     }
 }
