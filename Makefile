@@ -1,13 +1,14 @@
 # make demo: builds the archive, compiles the example against it, and runs it. make test: what the gate runs beside the proofs.
 # make bench: the archive against the loops of the Rust, timed; make instructions: the same, counted by callgrind.
+# make firmware CORE=armv5te: the archive for a printer's core; make test-firmware: all of them under qemu, with the tools that make firmware-tools installs.
 archive = target/staticlib/libhoglidra.a
 compile = $(CC) -std=c99 -pedantic -Wall -Wextra -Werror -O2 -Iinclude
 
-.PHONY: demo test test-archive test-c test-demo test-rust bench instructions
+.PHONY: demo test test-archive test-c test-demo test-rust bench instructions firmware test-firmware firmware-tools
 demo: target/ingredients
 	target/ingredients
 
-test: test-archive test-c test-demo test-rust
+test: test-archive test-c test-demo test-rust firmware
 
 # The archive calls nothing that it does not hold: no heap, no C library. It has no variables: calls may run at once.
 test-archive: $(archive)
@@ -38,6 +39,21 @@ bench: $(archive)
 
 instructions: $(archive)
 	cd rust && cargo bench --offline -- --instructions
+
+# The archive for a core, or for all. What it is made of and held against: docs/FIRMWARE.md.
+firmware: target/firmware/module.ll
+	firmware/build.sh $(CORE)
+
+target/firmware/module.ll: $(archive) firmware/build.sh
+	firmware/build.sh module
+
+test-firmware: firmware target/readme.inc
+	firmware/test.sh $(CORE)
+
+firmware-tools:
+	apt-get update
+	apt-get install -y --no-install-recommends qemu-user qemu-system-arm gcc-aarch64-linux-gnu libc6-dev-arm64-cross gcc-arm-linux-gnueabihf \
+	    libc6-dev-armhf-cross gcc-arm-linux-gnueabi libc6-dev-armel-cross gcc-riscv64-linux-gnu libc6-dev-riscv64-cross gcc-arm-none-eabi libnewlib-arm-none-eabi
 
 $(archive): crates.txt $(shell find crates -name '*.rt' -o -name '*.antt')
 	@mkdir -p target

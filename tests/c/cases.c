@@ -7,7 +7,11 @@
 #include <stdio.h>
 #include <stdlib.h>
 #include <string.h>
+#ifdef NVALGRIND /* a core that valgrind does not run on: there firmware/guard.c ends each buffer at a page that may not be touched */
+#define VALGRIND_COUNT_ERRORS 0u
+#else
 #include <valgrind/valgrind.h>
+#endif
 
 enum { MORE = 9, FILL = 0xEE, LINE = 8192 };
 
