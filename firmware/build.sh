@@ -80,7 +80,7 @@ unportable() { # MODULE
 check_portable() {
     local line found
     found=$(unportable "$out/module.ll")
-    [ -z "$found" ] || fail "the module has what may mean something else on another core: $found"
+    [ -z "$found" ] || fail "the module has what may mean something else on another core (if it does not, add it to 'same'):" "$found"
     while read -r line; do
         awk -v line="$line" '{ print } /^start:/ && !done { print line; done = 1 }' "$out/module.ll" >"$out/unportable.ll"
         [ -n "$(unportable "$out/unportable.ll")" ] || fail "this was not objected to: $line"

@@ -117,7 +117,7 @@ tables() { # CORE...
     echo "|---|---|---|---|---|---|$(printf -- '---|%.0s' "${of_each_kind[@]}")"
     for core; do
         echo "| $core | $(cat "$out/$core/code") | $(sed 's/[^0-9]//g' "$out/$core/stack.stdout") | $(cat "$out/$core/frames")" \
-            "| $(paste -sd ' ' "$out/$core/undefined" | grep . || echo none) | $(sed 's/^0$/none/; s/^[1-9].*/yes/' "$out/$core/unaligned") |$(for name in "${of_each_kind[@]}"; do grep -F "$name, 10 % null|" "$out/$core/counts" | sed 's/.*|\(.*\)/ \1 |/'; done | tr -d '\n')"
+            "| $(sed 's/.*/`&`/' "$out/$core/undefined" | paste -sd ' ' | grep . || echo none) | $(sed 's/^0$/none/; s/^[1-9].*/yes/' "$out/$core/unaligned") |$(for name in "${of_each_kind[@]}"; do grep -F "$name, 10 % null|" "$out/$core/counts" | sed 's/.*|\(.*\)/ \1 |/'; done | tr -d '\n')"
     done
     echo
     echo "| instructions, 40 rows of 4,096 |$(printf ' %s |' "$@")"

@@ -67,13 +67,13 @@ struct hoglidra_answer {
    Calls may run at once on different outputs and answers, also over the same sources: there is no global state.
 
    Numbers and lengths have 64 bits on every core, so that a call means the same on each; a size_t needs no cast. Where a pointer has fewer bits, no slice is
-   longer than the core can address: a greater length names bytes that are not there. As the length of a source or index buffer it is beyond the limit, and
-   refused before a byte is read; as that of an output it must not be said. A gather that needs more room than the core can address is refused with 7, and
+   longer than the core can address: a greater length names bytes that are not there. As the length of a source or index buffer that is used it is beyond the
+   limit, and refused before a byte is read; an output must not be lent with it. A gather that needs more room than the core can address is refused with 7, and
    `total` says in full how much that is.
 
    The four numbers go over the first 32 bytes of the answer, 8 bytes each, little-endian; the number is also returned. An answer slice of fewer than 32 bytes
-   gets 7, and nothing is written at all. The call uses less than 2,048 bytes of stack and no heap. It calls no other
-   library, but for memcpy and memset on cores that allow no unaligned access (docs/FIRMWARE.md). */
+   gets 7, and nothing is written at all. The call uses less than 2,048 bytes of stack and no heap. It calls no other library, but for memcpy and memset on cores
+   that allow no unaligned access (docs/FIRMWARE.md). */
 uint64_t hoglidra_take(
     uint64_t kind, uint64_t width, uint64_t size, uint64_t offset_width, uint64_t rows, uint64_t data_bit, uint64_t validity_bit,
     const uint8_t *data, uint64_t data_len, const uint8_t *offsets, uint64_t offsets_len, const uint8_t *validity, uint64_t validity_len,
