@@ -31,7 +31,7 @@ pub fn check_columns(
         data: index_data.len() as u64,
         validity: index_validity.len() as u64,
     };
-    let sizes = check_sizes(table, lengths, indices, index_lengths);
+    let sizes = check_sizes(table, false, lengths, indices, index_lengths);
     let Checked::Fit = sizes else {
         return sizes;
     };

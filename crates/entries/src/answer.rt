@@ -33,6 +33,7 @@ fn refusal_numbers(r: Refusal) -> Answer
         Refusal::Range { place } => numbers(5, place, 0),
         Refusal::Overflow { place, total } => numbers(6, place, total),
         Refusal::Space { place, total } => numbers(7, place, total),
+        Refusal::Rows => numbers(8, 0, 0),
     }
 }
 

@@ -50,7 +50,7 @@ stored-offsets (VariableWidth u) v s = refl
 
 module _ (k : Kind) (c : Column) (v : Rows) (few : v .count ≤ maxRows) where
   abbrev exact : Layout → Column
-  exact l = record { table = withRowsAt (c .table) (v .count) 0 0; «data» = dataBytes l v; offsets = writtenOffsets l v; validity = validityBytes v }
+  exact l = record { table = withRowsAt (c .table) (v .count) 0 0; «data» = dataBytes l v; offsets = writtenOffsets l v; validity = validityBytes v; cut = false }
 
   no-slack : (l : Layout) → withSlack l c v [] [] [] ≡ exact l
   no-slack l = rw (append-nil (dataBytes l v), append-nil (writtenOffsets l v), append-nil (validityBytes v))
@@ -100,6 +100,7 @@ module _ (k : Kind) (c : Column) (v : Rows) (few : v .count ≤ maxRows) where
         and-false-right (not (isAbsent (validityBytes v)))
         (le-ltb (length (validityBytes v)) (bytesFor (0 + v .count)) (omega (arith, length-validity v)));
     goodOffsets = good-offsets l e h rk s;
+    whole = refl;
   }
 
 -- ---- the taken rows, where the tests through overflow let pass

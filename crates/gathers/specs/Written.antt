@@ -1,6 +1,7 @@
 -- What was gathered is a column again, of exactly the bytes written. A later call may take it as a source, or read its rows.
 use Prim.Native.Nat.{ℕ, _<_}
 use mathlib.Core.Path.{_≡_}
+use mathlib.Core.Bool.{false}
 use mathlib.Core.List.{List, []}
 use lib.ListN.{length, take}
 use Rattle.tables.specs.declared.table.Layout.{Layout}
@@ -22,11 +23,12 @@ storedColumn c v = record {
   «data» = dataBytes (v .layout) v;
   offsets = writtenOffsets (v .layout) v;
   validity = validityBytes v;
+  cut = false;
 }
 
 -- the whole output buffers as such a column, of count rows
 abbrev pub outputColumn : Column → ℕ → Output → Column
-outputColumn c count o = record { table = withRowsAt (c .table) count 0 0; «data» = o .«data»; offsets = o .offsets; validity = o .validity }
+outputColumn c count o = record { table = withRowsAt (c .table) count 0 0; «data» = o .«data»; offsets = o .offsets; validity = o .validity; cut = false }
 
 -- the output buffers begin with the buffers of d
 pub record BeginsWith (d : Column) (o : Output) : Type 0 where

@@ -116,9 +116,16 @@ fn index_too_short(x: Indices, n: IndexLengths) -> bool
     (n.data < x.count * x.width) | validity_short(n.validity, x.validity_bit, x.count)
 }
 
-// Refusals 1, 2 and 3 of two descriptions with the lengths of their buffers. Each test is put to both before the next.
-pub fn check_sizes(table: Table, n: Lengths, indices: Indices, m: IndexLengths) -> Checked
-    ensures { λ r. ⌜ checkedNumbers r ≡ statedRefusal table n indices m ⌝ }
+// Refusals 1, 2 and 3 of two descriptions with the lengths of their buffers; `cut` says that a buffer of the table ends past the slice that it lies in.
+// Each test is put to both before the next.
+pub fn check_sizes(
+    table: Table,
+    cut: bool,
+    n: Lengths,
+    indices: Indices,
+    m: IndexLengths,
+) -> Checked
+    ensures { λ r. ⌜ checkedNumbers r ≡ statedRefusal table cut n indices m ⌝ }
 {
     let kind = kind_of(table.kind);
     if bad_kind(kind, table) | !is_index_width(indices.width) {
@@ -128,7 +135,7 @@ pub fn check_sizes(table: Table, n: Lengths, indices: Indices, m: IndexLengths) 
         return Checked::Unfit(Refusal::Limit);
     }
     let layout = layout_of(kind, table);
-    if too_short(layout, table, n) | index_too_short(indices, m) {
+    if cut | too_short(layout, table, n) | index_too_short(indices, m) {
         return Checked::Unfit(Refusal::Short);
     }
     Checked::Fit

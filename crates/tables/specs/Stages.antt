@@ -1,5 +1,5 @@
 -- What a stage answers, and refusals 1 to 4 as the two stages that test them, sizes and offsets.
-use mathlib.Core.Bool.{cond}
+use mathlib.Core.Bool.{Bool, cond}
 use Rattle.tables.specs.declared.table.Kind.{Kind}
 use Rattle.tables.specs.declared.table.Table.{Table}
 use Rattle.tables.specs.declared.table.Indices.{Indices}
@@ -27,14 +27,14 @@ a orElse b = cond (passes a) b a
 unfoldable pub formRefusal : Column → IndexColumn → Answer
 formRefusal c x = firstOf (formLines (kindAt c) (layoutAt c) c x)
 
--- 1 to 3, of two descriptions with the lengths of their buffers
-unfoldable pub statedRefusal : Table → Lengths → Indices → IndexLengths → Answer
-statedRefusal t n x m =
+-- 1 to 3, of two descriptions with the lengths of their buffers; `cut` says that one of the first's is cut
+unfoldable pub statedRefusal : Table → Bool → Lengths → Indices → IndexLengths → Answer
+statedRefusal t cut n x m =
     let k : Kind = kindOf (t .kind) in
-    firstOf (sizeLines (either (tableForm k (layoutOf k (t .width) (t .size)) t n) (indicesForm x m)))
+    firstOf (sizeLines (either (tableForm k (layoutOf k (t .width) (t .size)) t cut n) (indicesForm x m)))
 
 abbrev pub sizesRefusal : Column → IndexColumn → Answer
-sizesRefusal c x = statedRefusal (c .table) (lengthsOf c) (x .indices) (indexLengthsOf x)
+sizesRefusal c x = statedRefusal (c .table) (c .cut) (lengthsOf c) (x .indices) (indexLengthsOf x)
 
 -- 4
 unfoldable pub offsetsRefusal : Column → Answer

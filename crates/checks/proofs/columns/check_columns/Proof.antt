@@ -1,6 +1,7 @@
 -- `checks::columns::check_columns` meets its contract: the answer of the two stages is that of the first that refuses. Assumes nothing.
 use borrow.Author.Needs.{needs}
 use mathlib.Core.Path.{_∙_}
+use mathlib.Core.Bool.{false}
 use Rattle.tables.specs.Columns.{Column, IndexColumn}
 use Rattle.tables.proofs.Stages.{fit-sized, stage-refused, stage-passed, sized-bare, offsets-bare}
 use Rattle.checks.proofs.columns.check_columns.Statement.{statement}
@@ -22,7 +23,7 @@ check-offsets-requires : tie.Need-check-offsets-requires
 check-offsets-requires c κs =
     let a = c .before .before .before .before .before .before .before .before .args in
     let x : IndexColumn = record { indices = a .indices; «data» = a .index-data .now; validity = a .index-validity .now } in
-    let d : Column = record { table = a .table; «data» = a .«data» .now; offsets = a .offsets .now; validity = a .validity .now } in
+    let d : Column = record { table = a .table; «data» = a .«data» .now; offsets = a .offsets .now; validity = a .validity .now; cut = false } in
     sized-bare d (fit-sized d x (c .before .before .check-sizes .ensures) (c .enum-told .given .1))
 
 returns-2 : tie.Need-returns-2

@@ -45,6 +45,12 @@ enum-known-r-4 c = search needs
 numbers-requires-7 : tie.Need-numbers-requires-7
 numbers-requires-7 c κs = search needs
 
+enum-told-4 : tie.Need-enum-told-4
+enum-told-4 c = search needs
+
+numbers-requires-8 : tie.Need-numbers-requires-8
+numbers-requires-8 c κs = search needs
+
 returns : tie.Need-returns
 returns c = cc
 
@@ -66,6 +72,9 @@ returns-6 c = cc
 returns-7 : tie.Need-returns-7
 returns-7 c = cc
 
+returns-8 : tie.Need-returns-8
+returns-8 c = cc
+
 pub refusal-numbers-spec : {M : Type 1} → statement M
 refusal-numbers-spec =
     tie.close
@@ -84,10 +93,13 @@ refusal-numbers-spec =
     numbers-requires-6
     enum-known-r-4
     numbers-requires-7
+    enum-told-4
+    numbers-requires-8
     returns
     returns-2
     returns-3
     returns-4
     returns-5
     returns-6
-    returns-7)
+    returns-7
+    returns-8)

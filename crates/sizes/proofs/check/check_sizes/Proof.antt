@@ -20,7 +20,7 @@ is-index-width-requires c κs = search needs
 returns : tie.Need-returns
 returns c =
     let k = c .before in
-    refused-kind _ _ _ _ (kind-met _ _ _ _ (k .before .before .kind-of .ensures) (k .before .bad-kind .ensures) (k .is-index-width .ensures) (c .if1 .taken))
+    refused-kind _ _ _ _ _ (kind-met _ _ _ _ _ (k .before .before .kind-of .ensures) (k .before .bad-kind .ensures) (k .is-index-width .ensures) (c .if1 .taken))
 
 over-limit-requires : tie.Need-over-limit-requires
 over-limit-requires c κs = search needs
@@ -34,9 +34,9 @@ returns-2 c =
     let i = m .before .before in
     let k = i .before in
     let e = k .before .before .kind-of .ensures in
-    refused-limit _ _ _ _
-    (kind-met _ _ _ _ e (k .before .bad-kind .ensures) (k .is-index-width .ensures) (i .if1 .left))
-    (limit-met _ _ _ _ e (m .before .over-limit .ensures) (m .index-over-limit .ensures) (c .if2 .taken))
+    refused-limit _ _ _ _ _
+    (kind-met _ _ _ _ _ e (k .before .bad-kind .ensures) (k .is-index-width .ensures) (i .if1 .left))
+    (limit-met _ _ _ _ _ e (m .before .over-limit .ensures) (m .index-over-limit .ensures) (c .if2 .taken))
 
 layout-of-requires : tie.Need-layout-of-requires
 layout-of-requires c κs =
@@ -85,10 +85,10 @@ returns-3 c =
     let i = m .before .before in
     let k = i .before in
     let e = k .before .before .kind-of .ensures in
-    refused-short _ _ _ _
-    (kind-met _ _ _ _ e (k .before .bad-kind .ensures) (k .is-index-width .ensures) (i .if1 .left))
-    (limit-met _ _ _ _ e (m .before .over-limit .ensures) (m .index-over-limit .ensures) (i2 .if2 .left))
-    (short-met _ _ _ _ e (s .before .before .layout-of .ensures) (s .before .too-short .ensures) (s .index-too-short .ensures) (c .if3 .taken))
+    refused-short _ _ _ _ _
+    (kind-met _ _ _ _ _ e (k .before .bad-kind .ensures) (k .is-index-width .ensures) (i .if1 .left))
+    (limit-met _ _ _ _ _ e (m .before .over-limit .ensures) (m .index-over-limit .ensures) (i2 .if2 .left))
+    (short-met _ _ _ _ _ e (s .before .before .layout-of .ensures) (s .before .too-short .ensures) (s .index-too-short .ensures) (c .if3 .taken))
 
 returns-4 : tie.Need-returns-4
 returns-4 c =
@@ -98,10 +98,10 @@ returns-4 c =
     let i = m .before .before in
     let k = i .before in
     let e = k .before .before .kind-of .ensures in
-    sizes-accepted _ _ _ _
-    (kind-met _ _ _ _ e (k .before .bad-kind .ensures) (k .is-index-width .ensures) (i .if1 .left))
-    (limit-met _ _ _ _ e (m .before .over-limit .ensures) (m .index-over-limit .ensures) (i2 .if2 .left))
-    (short-met _ _ _ _ e (s .before .before .layout-of .ensures) (s .before .too-short .ensures) (s .index-too-short .ensures) (c .if3 .left))
+    sizes-accepted _ _ _ _ _
+    (kind-met _ _ _ _ _ e (k .before .bad-kind .ensures) (k .is-index-width .ensures) (i .if1 .left))
+    (limit-met _ _ _ _ _ e (m .before .over-limit .ensures) (m .index-over-limit .ensures) (i2 .if2 .left))
+    (short-met _ _ _ _ _ e (s .before .before .layout-of .ensures) (s .before .too-short .ensures) (s .index-too-short .ensures) (c .if3 .left))
 
 pub check-sizes-spec : {M : Type 1} → statement M
 check-sizes-spec =
