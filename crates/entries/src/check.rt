@@ -14,8 +14,8 @@ ghost use mathlib.Core.Path.{_≡_};
 ghost use Rattle.tables.specs.Columns.{columnAt, indexColumnAt};
 ghost use Rattle.tables.specs.Answers.{firstOf};
 ghost use Rattle.tables.specs.Stages.{checkedNumbers};
+ghost use Rattle.gathers.specs.Stored.{outputAt};
 ghost use Rattle.gathers.specs.Gather.{refusals};
-ghost use Rattle.entries.specs.Entry.{outputAt};
 ghost use Rattle.entries.specs.Tested.{stoppedAt, Told};
 
 // The first refusal. Where there is none: the rows need `total` bytes of data, and `outside` says whether some number of the indices, then one

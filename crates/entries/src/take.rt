@@ -8,9 +8,10 @@ use tables::refusal::Checked;
 use tables::table::Indices;
 use tables::table::Table;
 ghost use Rattle.tables.specs.Columns.{columnAt, indexColumnAt};
-ghost use Rattle.gathers.specs.Gather.{gather};
+ghost use Rattle.gathers.specs.Stored.{outputAt};
+ghost use Rattle.gathers.specs.Gather.{outcome, gather};
 ghost use Rattle.entries.specs.Answered.{answeredNumbers};
-ghost use Rattle.entries.specs.Entry.{outcome, outputAt, Gathers};
+ghost use Rattle.entries.specs.Entry.{Gathers};
 
 pub fn take(
     table: Table,

@@ -20,9 +20,9 @@ use Rattle.tables.specs.Columns.{Column, IndexColumn, kindAt, layoutAt, offsetA
 use Rattle.tables.specs.Answers.{passes, firstOf}
 use Rattle.tables.specs.Refusals.{maxRows, maxBytes, dataShort, hasBadOffset, indexRefusal, WellFormed}
 use Rattle.tables.specs.Rows.{Rows, rowsBy, rowsOf}
-use Rattle.gathers.specs.Written.{ReadsAs, writtenOffsets, storedColumn, outputColumn, BeginsWith}
+use Rattle.gathers.specs.Written.{ReadsAs, storedColumn, outputColumn, BeginsWith}
 use Rattle.gathers.specs.Taken.{takeRows, taken}
-use Rattle.gathers.specs.Stored.{Output, validityBytes, startOf, offsetBytes, dataBytes, dataLength, storeOffsets, store}
+use Rattle.gathers.specs.Stored.{Output, validityBytes, startOf, offsetBytes, writtenOffsets, dataBytes, dataLength, store}
 use Rattle.gathers.specs.Gather.{outOfRange, throughLines, gathered, gather}
 use Rattle.gathers.specs.Stages.{overflowRefusal}
 use Rattle.bits.proofs.Bytes.{take-overwrite}
@@ -39,12 +39,6 @@ use Rattle.gathers.proofs.Regular.{regular-take, length-validity, lengt
 use Rattle.gathers.proofs.Descriptions.{kind-with, number-with}
 use Rattle.gathers.proofs.Variable.{running-good}
 use Rattle.gathers.proofs.ReadBack.{withSlack, valid-back, offset-back, Storable, bytes-back, taken-storable}
-
--- the offsets that are stored are those written, over the front of what is lent
-stored-offsets : (l : Layout) (v : Rows) (s : List ℕ) → storeOffsets l v s ≡ overwrite (writtenOffsets l v) s
-stored-offsets (FixedWidth n) v s = refl
-stored-offsets BitMap v s = refl
-stored-offsets (VariableWidth u) v s = refl
 
 -- ---- rows that can be stored make a well-formed column
 
@@ -141,8 +135,15 @@ module _ (c : Column) (x : IndexColumn) (passed : passes (firstOf (throughLines 
       let w : passes (overflowRefusal v) ≡ true = rw (rowsOf-by c) at (through .overflow) in
       taken-storable k un c x (index-formed x (form .1)) inside l rk wf (no-overflow v w)
 
+  pub storable-taken : Storable (layoutAt c) (c .table .«offset_width») (taken c x)
+  storable-taken = rw (rowsOf-by c) storable
+
   held : length (dataBytes l v) ≡ dataLength l v
   held = length-data v l (regular-take (rowsBy k un l c) x (regular-column k un l c rk wf) inside)
+
+  -- as many bytes are written as are said to be needed
+  pub data-held : length (dataBytes (taken c x .layout) (taken c x)) ≡ dataLength (taken c x .layout) (taken c x)
+  data-held = rw (rowsOf-by c) held
 
   -- whatever follows the bytes that are written
   slack-reads : (a b d : List ℕ) → ReadsAs (rowsOf (withSlack l c v a b d)) v
@@ -164,7 +165,7 @@ module _ (c : Column) (x : IndexColumn) (passed : passes (firstOf (throughLines 
   pub lent-reads : (o : Output) → ReadsAs (rowsOf (outputColumn c (x .indices .count) (store (taken c x) o))) (taken c x)
   unfolding store
   lent-reads o =
-      rw (rowsOf-by c, stored-offsets l v (o .offsets))
+      rw (rowsOf-by c)
       (slack-reads (drop (length (validityBytes v)) (o .validity)) (drop (length (writtenOffsets l v)) (o .offsets)) (drop (length (dataBytes l v)) (o .«data»)))
 
 -- ---- of a gather
@@ -177,7 +178,7 @@ module _ (c : Column) (x : IndexColumn) (o : Output) (e : gather c x o .answer .
       rw (gathered-stored c x o e)
       (record {
         validity = take-overwrite (validityBytes (taken c x)) (o .validity);
-        offsets = rw (stored-offsets (taken c x .layout) (taken c x) (o .offsets)) (take-overwrite (writtenOffsets (taken c x .layout) (taken c x)) (o .offsets));
+        offsets = take-overwrite (writtenOffsets (taken c x .layout) (taken c x)) (o .offsets);
         «data» = take-overwrite (dataBytes (taken c x .layout) (taken c x)) (o .«data»);
       })
 

@@ -2,19 +2,10 @@
 use Prim.Native.Nat.{ℕ, _<_}
 use mathlib.Core.Path.{_≡_}
 use mathlib.Core.Bool.{false}
-use mathlib.Core.List.{List, []}
 use lib.ListN.{length, take}
-use Rattle.tables.specs.declared.table.Layout.{Layout}
-use Rattle.tables.specs.declared.table.Layout.the-variants.{FixedWidth, BitMap, VariableWidth}
 use Rattle.tables.specs.Columns.{Column, withRowsAt}
 use Rattle.tables.specs.Rows.{Rows}
-use Rattle.gathers.specs.Stored.{Output, validityBytes, offsetBytes, dataBytes}
-
--- the offsets, where the layout has any
-abbrev pub writtenOffsets : Layout → Rows → List ℕ
-writtenOffsets (FixedWidth n) v = []
-writtenOffsets BitMap v = []
-writtenOffsets (VariableWidth u) v = offsetBytes v
+use Rattle.gathers.specs.Stored.{Output, validityBytes, writtenOffsets, dataBytes}
 
 -- rows as a column of the kind, the widths and the size of c, at bit offsets 0: nothing follows the bytes that are written
 abbrev pub storedColumn : Column → Rows → Column

@@ -1,5 +1,5 @@
 -- `entries::take::take` meets its contract: by what the tests answer, and the blanked table's clause by demand 3. Assumes nothing.
-use Rattle.entries.specs.Entry.{outputAt}
+use Rattle.gathers.specs.Stored.{outputAt}
 use Rattle.entries.proofs.Gathering.{both, turned-away, ready, outside-told, overflow-passed, validity-room, data-room, all-stored}
 use Rattle.gathers.proofs.Buffers.{validates}
 use Rattle.stages.proofs.Routines.{validity-held, validity-stored, nulls-counted}
