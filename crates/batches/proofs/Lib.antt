@@ -1,0 +1,7 @@
+pub mod Refused
+pub mod Passed
+pub mod Alike
+pub mod Blanked
+pub mod One
+pub mod Separate
+pub mod Cases

@@ -1,0 +1,3 @@
+pub mod Batch
+pub mod Separate
+pub mod Passed
