@@ -11,12 +11,18 @@ use Rattle.tables.specs.Refusals.{WellFormed}
 use Rattle.tables.specs.Bounds.{RowFits, Bounds}
 use Rattle.tables.specs.Rows.{rowsBy, rowsOf}
 use Rattle.gathers.specs.Taken.{takeRows}
-use Rattle.gathers.specs.Stored.{Output, lentLengths, offsetLength, dataLength}
+use Rattle.gathers.specs.Stored.{Output, lentLengths, offsetLength, dataLength, neededLengths}
+use Rattle.tables.specs.Answers.{firstOf}
+use Rattle.gathers.specs.Gather.{spaceLines}
 use Rattle.gathers.specs.Stages.{spaceRefusal}
 use Rattle.stages.specs.Space.{offsetBytesFor, lengthsFor, lengthsRefusal}
 use Rattle.tables.proofs.Stages.{layout-told, sized-row-fits, sized-bounds, well-formed-sized}
 use Rattle.tables.proofs.Views.{rowsOf-by}
 use Rattle.gathers.proofs.Stages.{spaceRefusal-lines}
+
+pub lengthsRefusal-lines : (needed lent : Lengths) → lengthsRefusal needed lent ≡ firstOf (spaceLines needed lent)
+unfolding lengthsRefusal
+lengthsRefusal-lines needed lent = refl
 
 module _ (c : Column) where
   pub told : layoutAt c ≡ layoutOf (kindOf (c .table .kind)) (c .table .width) (c .table .size)
@@ -42,11 +48,15 @@ module _ (c : Column) where
         go BitMap = refl
         go (VariableWidth u) = refl
 
+    -- the lengths as the code finds them are those that the rows need
+    pub needed-told : {total : ℕ} → total ≡ dataLength (rowsOf c .layout) (takeRows (rowsOf c) x)
+        → lengthsFor (layoutOf (kindOf (c .table .kind)) (c .table .width) (c .table .size)) (c .table .«offset_width») (x .indices .count) total ≡ neededLengths (takeRows (rowsOf c) x)
+    needed-told e = rw (e, sym told, offsets-length)
+
     space-told : (o : Output) {total : ℕ} → total ≡ dataLength (rowsOf c .layout) (takeRows (rowsOf c) x)
         → lengthsRefusal (lengthsFor (layoutOf (kindOf (c .table .kind)) (c .table .width) (c .table .size)) (c .table .«offset_width») (x .indices .count) total) (lentLengths o)
         ≡ spaceRefusal (takeRows (rowsOf c) x) o
-    unfolding lengthsRefusal
-    space-told o e = rw (spaceRefusal-lines (takeRows (rowsOf c) x) o, e, sym told, offsets-length)
+    space-told o e = lengthsRefusal-lines _ _ ∙ ap (λ (n : Lengths). firstOf (spaceLines n (lentLengths o))) (needed-told e) ∙ sym (spaceRefusal-lines (takeRows (rowsOf c) x) o)
 
     pub space-checked : (o : Output) {a : Answer} {needed : Lengths} {total : ℕ} → a ≡ lengthsRefusal needed (lentLengths o)
         → needed ≡ lengthsFor (layoutOf (kindOf (c .table .kind)) (c .table .width) (c .table .size)) (c .table .«offset_width») (x .indices .count) total
