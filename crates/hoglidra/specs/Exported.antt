@@ -1,4 +1,4 @@
--- What the exported entry leaves of a gather: the number returned, the 32 bytes of the answer, and the outputs.
+-- What an exported entry leaves of a gather: the number returned, the 32 bytes of the answer, and the outputs.
 use Prim.Native.Nat.{ℕ}
 use mathlib.Core.Bool.{cond}
 use mathlib.Core.List.{List, _++_}
@@ -7,9 +7,9 @@ use lib.ListN.{length}
 use Rattle.bits.specs.Bytes.{overwrite}
 use Rattle.bits.specs.Numbers.{toLittleEndian}
 use Rattle.tables.specs.declared.refusal.Answer.{Answer}
-use Rattle.tables.specs.Columns.{Column, IndexColumn}
+use Rattle.tables.specs.Columns.{IndexColumn}
 use Rattle.gathers.specs.Stored.{Output}
-use Rattle.gathers.specs.Gather.{Outcome, gather}
+use Rattle.gathers.specs.Gather.{Outcome}
 
 -- number, place, total, nulls, each of 64 bits and little-endian
 abbrev pub answerBytes : Answer → List ℕ
@@ -28,6 +28,6 @@ left n a o = record { number = n; answer = a; output = o }
 abbrev pub answered : List ℕ → Outcome → Exported
 answered a g = left (g .answer .number) (overwrite (answerBytes (g .answer)) a) (g .output)
 
--- of a gather with the answer slice a; a shorter slice gets 7 before every other test, and nothing is written
-unfoldable pub exported : List ℕ → Column → IndexColumn → Output → Exported
-exported a c x o = cond (ltb (length a) 32) (left 7 a o) (answered a (gather c x o))
+-- of a gather that f defines, with the answer slice a; a shorter slice gets 7 before every other test, and nothing is written
+unfoldable pub exported : {S : Type 0} → (S → IndexColumn → Output → Outcome) → List ℕ → S → IndexColumn → Output → Exported
+exported f a s x o = cond (ltb (length a) 32) (left 7 a o) (answered a (f s x o))

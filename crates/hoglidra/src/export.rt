@@ -1,29 +1,15 @@
-// What the printer's C firmware calls: numbers and byte slices, each slice a pointer and a length. The number is returned, and the four numbers are
-// written into the lent answer, refusals included; an answer slice of fewer than 32 bytes gets 7 before every other test, and nothing is written.
-use bits::number::write_u64;
+// What the printer's C firmware calls to gather a column: numbers and byte slices, each slice a pointer and a length. The number is returned, and the four
+// numbers are written into the lent answer, refusals included; an answer slice of fewer than 32 bytes gets 7 before every other test, and nothing is written.
+use crate::answer::write_answer;
 use entries::answer::answered_numbers;
 use entries::take::take;
-use tables::refusal::Answer;
 use tables::table::Indices;
 use tables::table::Table;
-ghost use mathlib.Core.Path.{_≡_};
-ghost use Prim.Native.Nat.{_≤_};
-ghost use lib.ListN.{length};
-ghost use Rattle.bits.specs.Bytes.{overwrite};
 ghost use Rattle.tables.specs.Columns.{columnAt, indexColumnAt, description, indexDescription};
-ghost use Rattle.entries.specs.Entry.{outputAt, Gathers};
-ghost use Rattle.hoglidra.specs.Exported.{answerBytes, left, exported};
-
-// Writes the four numbers, eight bytes each, over the first 32 bytes.
-fn write_answer(answer: Answer, out: &mut [u8])
-    requires { ⌜ 32 ≤ length (now out) ⌝ }
-    ensures { λ _. ⌜ now (out .exit) ≡ overwrite (answerBytes answer) (now (out .entry)) ⌝ }
-{
-    write_u64(out, 0, answer.number);
-    write_u64(out, 8, answer.place);
-    write_u64(out, 16, answer.total);
-    write_u64(out, 24, answer.nulls);
-}
+ghost use Rattle.gathers.specs.Stored.{outputAt};
+ghost use Rattle.gathers.specs.Gather.{gather};
+ghost use Rattle.entries.specs.Entry.{Gathers};
+ghost use Rattle.hoglidra.specs.Exported.{left, exported};
 
 #[no_mangle]
 pub extern "C" fn hoglidra_take(
@@ -47,7 +33,7 @@ pub extern "C" fn hoglidra_take(
     out_data: &mut [u8],
     answer: &mut [u8],
 ) -> u64
-    ensures { λ r. ⌜ Gathers (exported (now (answer .entry)))
+    ensures { λ r. ⌜ Gathers (exported gather (now (answer .entry)))
         (columnAt (description kind width size «offset_width» rows «data_bit» «validity_bit») («data» .entry) (offsets .entry) (validity .entry))
         (indexColumnAt (indexDescription «index_width» count «index_validity_bit») («index_data» .entry) («index_validity» .entry))
         (outputAt («out_validity» .entry) («out_offsets» .entry) («out_data» .entry))

@@ -1,0 +1,6 @@
+pub mod Through
+pub mod Records
+pub mod Counted
+pub mod Tested
+pub mod Laid
+pub mod Gathering

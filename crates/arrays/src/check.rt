@@ -1,0 +1,130 @@
+// The tests of a batch, in their order, before any output byte is written: those of the batch, the columns one by one through overflow, and space over
+// the joined lengths.
+use crate::batch::check_batch;
+use crate::column::check_first;
+use crate::column::check_next;
+use described::column::Needs;
+use descriptions::record::describe;
+use stages::space::check_space;
+use tables::refusal::Checked;
+use tables::table::Indices;
+use tables::table::Lengths;
+ghost use mathlib.Core.Path.{_≡_};
+ghost use Prim.Native.Nat.{_≤_};
+ghost use Rattle.tables.specs.Columns.{indexColumnAt};
+ghost use Rattle.tables.specs.Answers.{firstOf};
+ghost use Rattle.tables.specs.Stages.{checkedNumbers};
+ghost use Rattle.gathers.specs.Stored.{outputAt};
+ghost use Rattle.batches.specs.Batch.{batchAt, arraysRefusals};
+ghost use Rattle.arrays.specs.Told.{FirstPassed, AllToldOf, TestedOf, stoppedTestAt};
+
+// The first refusal. Where there is none, `outside` says whether some number of the indices, then one under a null index, is that of no row.
+pub struct Tested {
+    pub checked: Checked,
+    pub outside: bool,
+}
+
+fn stopped_test(checked: Checked) -> Tested
+    ensures { λ r. ⌜ r ≡ stoppedTestAt checked ⌝ }
+{
+    Tested {
+        checked,
+        outside: false,
+    }
+}
+
+// The columns after the first, which needs `first`.
+fn check_rest(
+    columns: usize,
+    descriptions: &[u8],
+    body: &[u8],
+    indices: Indices,
+    index_data: &[u8],
+    index_validity: &[u8],
+    first: Lengths,
+) -> Needs
+    requires { ⌜ FirstPassed (batchAt columns descriptions body) (indexColumnAt indices «index_data» «index_validity») first ⌝ }
+    ensures { λ r. ⌜ AllToldOf (batchAt columns (descriptions .entry) (body .entry)) (indexColumnAt indices («index_data» .entry) («index_validity» .entry)) r ⌝ }
+{
+    let mut validity = first.validity;
+    let mut offsets = first.offsets;
+    let mut data = first.data;
+    let mut i: usize = 1;
+    while i < columns {
+        let d = describe(descriptions, i);
+        let next = check_next(d, body, indices, index_data, index_validity);
+        let checked = next.checked;
+        let needed = next.needed;
+        let Checked::Fit = checked else {
+            return next;
+        };
+        validity += needed.validity;
+        offsets += needed.offsets;
+        data += needed.data;
+        i += 1;
+    }
+    let needed = Lengths {
+        data,
+        offsets,
+        validity,
+    };
+    Needs {
+        checked: Checked::Fit,
+        needed,
+    }
+}
+
+// Of the outputs only the lengths are looked at.
+pub fn check(
+    columns: u64,
+    descriptions: &[u8],
+    body: &[u8],
+    indices: Indices,
+    index_data: &[u8],
+    index_validity: &[u8],
+    out_validity: &[u8],
+    out_offsets: &[u8],
+    out_data: &[u8],
+) -> Tested
+    ensures first { λ r. ⌜ checkedNumbers (r .checked) ≡ firstOf (arraysRefusals
+        (batchAt columns (descriptions .entry) (body .entry))
+        (indexColumnAt indices («index_data» .entry) («index_validity» .entry))
+        (outputAt («out_validity» .entry) («out_offsets» .entry) («out_data» .entry))) ⌝ }
+    ensures told { λ r. ⌜ TestedOf (batchAt columns (descriptions .entry) (body .entry)) (indexColumnAt indices («index_data» .entry) («index_validity» .entry)) r ⌝ }
+{
+    let batched = check_batch(columns, descriptions);
+    let Checked::Fit = batched else {
+        return stopped_test(batched);
+    };
+    let d = describe(descriptions, 0);
+    let first = check_first(d, body, indices, index_data, index_validity);
+    let formed = first.checked;
+    let needed = first.needed;
+    let Checked::Fit = formed else {
+        return stopped_test(formed);
+    };
+    let rest = check_rest(
+        columns as usize,
+        descriptions,
+        body,
+        indices,
+        index_data,
+        index_validity,
+        needed,
+    );
+    let counted = rest.checked;
+    let joined = rest.needed;
+    let Checked::Fit = counted else {
+        return stopped_test(counted);
+    };
+    let lent = Lengths {
+        validity: out_validity.len() as u64,
+        offsets: out_offsets.len() as u64,
+        data: out_data.len() as u64,
+    };
+    let spaced = check_space(joined, lent);
+    Tested {
+        checked: spaced,
+        outside: first.outside,
+    }
+}
