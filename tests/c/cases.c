@@ -1,19 +1,21 @@
 /* Runs the cases of the text files that are named, which crates/vectors runs too, through the archive as a C caller sees it; then the paper's trial 10, cases that
    are made here, and an answer slice that is too short. Each buffer is allocated at its length, so that valgrind sees a byte read or written past it; outputs are
    lent with just the room needed and with more, and filled, so that a byte changed by a refusal shows. A case that passes refusals 1 to 3 is run once more with
-   only the needed bytes of its source and index buffers there, so that valgrind sees a read of any other. Prints a line for each file; exits with 1 at the first
-   difference. */
+   only the needed bytes of its source and index buffers there, so that valgrind sees a read of any other. A batch that is gathered is held against as many calls
+   for a column each, and is run with a byte less than it needs of each output. Prints a line for each file; exits with 1 at the first difference. */
 #include "hoglidra.h"
 #include <stdio.h>
 #include <stdlib.h>
 #include <string.h>
 #ifdef NVALGRIND /* a core that valgrind does not run on: there firmware/guard.c ends each buffer at a page that may not be touched */
 #define VALGRIND_COUNT_ERRORS 0u
+#define VALGRIND_MAKE_MEM_NOACCESS(at, len) ((void)(at), (void)(len))
+#define VALGRIND_MAKE_MEM_DEFINED(at, len) ((void)(at), (void)(len))
 #else
-#include <valgrind/valgrind.h>
+#include <valgrind/memcheck.h>
 #endif
 
-enum { MORE = 9, FILL = 0xEE, LINE = 8192 };
+enum { MORE = 9, FILL = 0xEE, LINE = 8192, RECORD = sizeof(struct hoglidra_column), MAX = HOGLIDRA_MAX_COLUMNS };
 
 enum { KIND, WIDTH, SIZE, OFFSET_WIDTH, ROWS, DATA_BIT, VALIDITY_BIT, INDEX_WIDTH, COUNT, INDEX_VALIDITY_BIT, NUMBERS };
 enum { DATA, OFFSETS, VALIDITY, INDEX_DATA, INDEX_VALIDITY, INPUTS };
@@ -25,6 +27,19 @@ struct buffer { uint8_t *at; size_t len; };
 struct gather {
     uint64_t numbers[NUMBERS], answer[4];
     struct buffer in[INPUTS], out[OUTPUTS];
+};
+
+/* A line of several columns. Numbers and buffers of the index column stand where they do in a gather. */
+struct batch {
+    uint64_t columns, numbers[NUMBERS], answer[4];
+    struct buffer descriptions, body, in[INPUTS], out[OUTPUTS];
+};
+
+/* Outputs and an answer that are lent to a call: filled, and with so many bytes around each output that are not lent. */
+struct lent {
+    size_t around;
+    struct buffer out[OUTPUTS];
+    uint8_t answer[HOGLIDRA_ANSWER_LEN + MORE];
 };
 
 static const char *where;
@@ -70,16 +85,40 @@ static void read_bytes(struct buffer *b) {
     }
 }
 
-static void read_gather(char *line, struct gather *g) {
-    g->numbers[KIND] = number(strtok(line, " "));
+static void read_mark(const char *mark) {
+    if (strcmp(field(), mark)) fail("not a case");
+}
+
+/* The rest of a line, from the index column on. */
+static void read_rest(uint64_t *numbers, struct buffer *in, uint64_t *answer, struct buffer *out) {
+    read_numbers(numbers + INDEX_WIDTH, NUMBERS - INDEX_WIDTH);
+    for (int i = INDEX_DATA; i < INPUTS; i++) read_bytes(&in[i]);
+    read_mark("=");
+    read_numbers(answer, 4);
+    for (int i = 0; i < OUTPUTS; i++) read_bytes(&out[i]);
+    if (strtok(NULL, " \n")) fail("not a case");
+}
+
+static void read_gather(const char *first, struct gather *g) {
+    g->numbers[KIND] = number(first);
     read_numbers(g->numbers + WIDTH, INDEX_WIDTH - WIDTH);
     for (int i = DATA; i <= VALIDITY; i++) read_bytes(&g->in[i]);
-    read_numbers(g->numbers + INDEX_WIDTH, NUMBERS - INDEX_WIDTH);
-    for (int i = INDEX_DATA; i < INPUTS; i++) read_bytes(&g->in[i]);
-    if (strcmp(field(), "=")) fail("not a case");
-    read_numbers(g->answer, 4);
-    for (int i = 0; i < OUTPUTS; i++) read_bytes(&g->out[i]);
-    if (strtok(NULL, " \n")) fail("not a case");
+    read_rest(g->numbers, g->in, g->answer, g->out);
+}
+
+/* Each record is written whole; the call gets as many bytes of them as the line says. */
+static void read_batch(struct batch *b) {
+    b->columns = number(field());
+    b->descriptions.len = (size_t)number(field());
+    b->descriptions.at = filled(b->descriptions.len);
+    for (size_t at = 0; at < (b->descriptions.len + RECORD - 1) / RECORD * RECORD; at += 8) {
+        if (at % RECORD == 0) read_mark("|");
+        uint64_t word = number(field());
+        for (size_t i = at; i < at + 8 && i < b->descriptions.len; i++) b->descriptions.at[i] = (uint8_t)(word >> 8 * (i - at));
+    }
+    read_mark("|");
+    read_bytes(&b->body);
+    read_rest(b->numbers, b->in, b->answer, b->out);
 }
 
 /* The call on outputs and an answer that are lent. */
@@ -95,25 +134,55 @@ static uint64_t call(const struct gather *g, const struct buffer out[OUTPUTS], u
     return returned;
 }
 
-static void expect_answer(uint64_t returned, const uint8_t answer[HOGLIDRA_ANSWER_LEN + MORE], const uint64_t want[4]) {
-    struct hoglidra_answer got = hoglidra_read_answer(answer);
+static uint64_t call_batch(const struct batch *b, const struct buffer out[OUTPUTS], uint8_t *answer, size_t answer_len) {
+    const uint64_t *n = b->numbers;
+    const struct buffer *in = b->in;
+    unsigned errors = VALGRIND_COUNT_ERRORS;
+    uint64_t returned = hoglidra_take_arrays(b->columns, b->descriptions.at, b->descriptions.len, b->body.at, b->body.len,
+        n[INDEX_WIDTH], n[COUNT], n[INDEX_VALIDITY_BIT], in[INDEX_DATA].at, in[INDEX_DATA].len, in[INDEX_VALIDITY].at, in[INDEX_VALIDITY].len,
+        out[OUT_VALIDITY].at, out[OUT_VALIDITY].len, out[OUT_OFFSETS].at, out[OUT_OFFSETS].len, out[OUT_DATA].at, out[OUT_DATA].len, answer, answer_len);
+    if (VALGRIND_COUNT_ERRORS != errors) fail("valgrind objects to a byte that is read or written");
+    return returned;
+}
+
+static void lend_outputs(struct lent *l, const size_t len[OUTPUTS], size_t around) {
+    memset(l->answer, FILL, sizeof l->answer);
+    l->around = around;
+    for (int i = 0; i < OUTPUTS; i++) {
+        uint8_t *at = filled(len[i] + 2 * around);
+        l->out[i].len = len[i], l->out[i].at = at ? at + around : NULL;
+    }
+}
+
+/* Holds what a call left against the answer and the bytes that it should give; all others are as they were. Takes the outputs back. */
+static void expect(struct lent *l, uint64_t returned, const uint64_t want[4], const struct buffer out[OUTPUTS]) {
+    static const char *const names[OUTPUTS] = { "the validity differs", "the offsets differ", "the data differs" };
+    struct hoglidra_answer got = hoglidra_read_answer(l->answer);
     if (returned != want[0]) fail("the number returned differs");
     if (got.number != want[0] || got.place != want[1] || got.total != want[2] || got.nulls != want[3]) fail("the answer differs");
-    for (int i = 0; i < MORE; i++) if (answer[HOGLIDRA_ANSWER_LEN + i] != FILL) fail("a byte after the answer differs");
+    for (int i = 0; i < MORE; i++) if (l->answer[HOGLIDRA_ANSWER_LEN + i] != FILL) fail("a byte after the answer differs");
+    for (int i = 0; i < OUTPUTS; i++) {
+        uint8_t *at = l->out[i].at ? l->out[i].at - l->around : NULL;
+        for (size_t k = 0; k < l->out[i].len + 2 * l->around; k++) {
+            int given = k >= l->around && k - l->around < out[i].len;
+            if (at[k] != (given ? out[i].at[k - l->around] : FILL)) fail(names[i]);
+        }
+        free(at);
+    }
 }
 
 static void run(const struct gather *g, size_t more) {
-    static const char *const names[OUTPUTS] = { "the validity differs", "the offsets differ", "the data differs" };
-    struct buffer out[OUTPUTS];
-    uint8_t answer[HOGLIDRA_ANSWER_LEN + MORE];
-    memset(answer, FILL, sizeof answer);
-    for (int i = 0; i < OUTPUTS; i++) out[i].len = g->out[i].len + more, out[i].at = filled(out[i].len);
-    expect_answer(call(g, out, answer, sizeof answer), answer, g->answer);
-    for (int i = 0; i < OUTPUTS; i++) {
-        for (size_t k = 0; k < out[i].len; k++)
-            if (out[i].at[k] != (k < g->out[i].len ? g->out[i].at[k] : FILL)) fail(names[i]);
-        free(out[i].at);
-    }
+    struct lent l;
+    const size_t len[OUTPUTS] = { g->out[OUT_VALIDITY].len + more, g->out[OUT_OFFSETS].len + more, g->out[OUT_DATA].len + more };
+    lend_outputs(&l, len, 0);
+    expect(&l, call(g, l.out, l.answer, sizeof l.answer), g->answer, g->out);
+}
+
+static void run_batch(const struct batch *b, size_t more, size_t around) {
+    struct lent l;
+    const size_t len[OUTPUTS] = { b->out[OUT_VALIDITY].len + more, b->out[OUT_OFFSETS].len + more, b->out[OUT_DATA].len + more };
+    lend_outputs(&l, len, around);
+    expect(&l, call_batch(b, l.out, l.answer, sizeof l.answer), b->answer, b->out);
 }
 
 static int has_offsets(const struct gather *g) {
@@ -165,14 +234,136 @@ static void run_all(const struct gather *g) {
     if (g->answer[0] == HOGLIDRA_GATHERED || g->answer[0] >= HOGLIDRA_OFFSETS) run_needed(g);
 }
 
+/* Space that is short by a byte at each place: with what the other outputs need, and with nothing after it, since 7 goes by place. */
+static void run_batch_short(const struct batch *b) {
+    static const struct buffer none[OUTPUTS];
+    for (int place = 0; place < OUTPUTS; place++)
+        for (int rest = 0; rest < 2 && b->out[place].len; rest++) {
+            struct lent l;
+            size_t len[OUTPUTS];
+            const uint64_t want[4] = { HOGLIDRA_SPACE, (uint64_t)place + 1, b->out[place].len, 0 };
+            for (int i = 0; i < OUTPUTS; i++) len[i] = i > place && !rest ? 0 : b->out[i].len;
+            len[place]--;
+            lend_outputs(&l, len, 0);
+            expect(&l, call_batch(b, l.out, l.answer, sizeof l.answer), want, none);
+        }
+}
+
+/* A column of a batch by itself: its part of the body, and the same index column. */
+static struct gather column_of(const struct batch *b, uint64_t k) {
+    struct hoglidra_column c;
+    memcpy(&c, b->descriptions.at + k * RECORD, RECORD);
+    struct gather g = { .numbers = { c.kind, c.width, c.size, c.offset_width, c.rows, c.data_bit, c.validity_bit,
+        b->numbers[INDEX_WIDTH], b->numbers[COUNT], b->numbers[INDEX_VALIDITY_BIT] } };
+    const uint64_t starts[] = { c.data_start, c.offsets_start, c.validity_start }, lens[] = { c.data_len, has_offsets(&g) ? c.offsets_len : 0, c.validity_len };
+    for (int i = DATA; i <= VALIDITY; i++) if (lens[i]) g.in[i].at = b->body.at + starts[i], g.in[i].len = (size_t)lens[i];
+    for (int i = INDEX_DATA; i < INPUTS; i++) g.in[i] = b->in[i];
+    return g;
+}
+
+/* What a batch gathers is what as many calls for a column each write, where the header says that the column lies; total and nulls are the sums. */
+static void run_columns(const struct batch *b) {
+    struct hoglidra_column columns[MAX];
+    struct lent l;
+    const size_t len[OUTPUTS] = { b->out[OUT_VALIDITY].len, b->out[OUT_OFFSETS].len, b->out[OUT_DATA].len };
+    uint64_t ends[OUTPUTS] = { 0, 0, 0 }, total = 0, nulls = 0;
+    memcpy(columns, b->descriptions.at, (size_t)b->columns * RECORD);
+    lend_outputs(&l, len, 0);
+    for (uint64_t k = 0; k < b->columns; k++) {
+        struct gather g = column_of(b, k);
+        struct hoglidra_outputs o = hoglidra_find_column(columns, k, b->numbers[COUNT], b->out[OUT_OFFSETS].at);
+        const uint64_t starts[] = { o.validity_start, o.offsets_start, o.data_start }, lens[] = { o.validity_len, o.offsets_len, o.data_len };
+        for (int i = 0; i < OUTPUTS; i++) {
+            if (starts[i] != ends[i] || lens[i] > len[i] - ends[i]) fail("a column is found elsewhere");
+            ends[i] += lens[i];
+            if (lens[i]) g.out[i].at = l.out[i].at + starts[i], g.out[i].len = (size_t)lens[i];
+        }
+        if (call(&g, g.out, l.answer, HOGLIDRA_ANSWER_LEN) != HOGLIDRA_GATHERED) fail("a column by itself is refused");
+        struct hoglidra_answer a = hoglidra_read_answer(l.answer);
+        if (a.total != o.data_len) fail("a column's data is found to have another length");
+        total += a.total, nulls += a.nulls;
+    }
+    const uint64_t sums[4] = { HOGLIDRA_GATHERED, 0, total, nulls };
+    if (memcmp(sums, b->answer, sizeof sums)) fail("the sums of the columns differ");
+    for (int i = 0; i < OUTPUTS; i++)
+        if (ends[i] != len[i] || (len[i] && memcmp(l.out[i].at, b->out[i].at, len[i]))) fail("the columns by themselves differ");
+    for (int i = 0; i < OUTPUTS; i++) free(l.out[i].at);
+}
+
+/* Goes through the needed bytes of the body: copies them into `to`, if it is there, and has valgrind allow them; says where the last of them ends. */
+static size_t allow_needed(const struct batch *b, uint8_t *to) {
+    size_t end = 0, needed[INPUTS];
+    for (uint64_t k = 0; k < b->columns; k++) {
+        struct gather g = column_of(b, k);
+        measure(&g, needed);
+        for (int i = DATA; i <= VALIDITY; i++) {
+            if (!needed[i]) continue;
+            size_t start = (size_t)(g.in[i].at - b->body.at);
+            if (start + needed[i] > end) end = start + needed[i];
+            if (!to) continue;
+            VALGRIND_MAKE_MEM_DEFINED(to + start, needed[i]);
+            memcpy(to + start, g.in[i].at, needed[i]);
+        }
+    }
+    return end;
+}
+
+static uint8_t *copied(const uint8_t *at, size_t len) {
+    uint8_t *to = malloc(len);
+    if (!to) fail("no memory");
+    for (size_t k = 0; k < len; k++) to[k] = at[k];
+    return to;
+}
+
+/* The batch with no other bytes there than the needed ones, of the body too: it ends after the last of them, the others in it are filled, and valgrind sees a
+   read of one. Where the row counts differ none is needed but the descriptions. The lengths stay. */
+static void run_batch_needed(const struct batch *b) {
+    struct batch cut = *b;
+    int gathered = b->answer[0] == HOGLIDRA_GATHERED;
+    size_t needed[INPUTS] = { 0 }, end = 0;
+    if (gathered) {
+        struct gather g = column_of(b, 0);
+        measure(&g, needed), end = allow_needed(b, NULL);
+    }
+    cut.descriptions.at = copied(b->descriptions.at, (size_t)b->columns * RECORD);
+    for (int i = INDEX_DATA; i < INPUTS; i++) cut.in[i].at = copied(b->in[i].at, needed[i]);
+    cut.body.at = malloc(end);
+    if (!cut.body.at) fail("no memory");
+    memset(cut.body.at, FILL, end);
+    VALGRIND_MAKE_MEM_NOACCESS(cut.body.at, end);
+    if (gathered) allow_needed(b, cut.body.at);
+    run_batch(&cut, 0, 0);
+    free(cut.descriptions.at), free(cut.body.at);
+    for (int i = INDEX_DATA; i < INPUTS; i++) free(cut.in[i].at);
+}
+
+static void run_whole_batch(const struct batch *b) {
+    run_batch(b, 0, 0), run_batch(b, MORE, 0), run_batch(b, 0, MORE);
+    if (b->answer[0] == HOGLIDRA_GATHERED) run_columns(b), run_batch_short(b);
+    if (b->answer[0] == HOGLIDRA_GATHERED || b->answer[0] == HOGLIDRA_ROWS) run_batch_needed(b);
+}
+
 static void free_gather(struct gather *g) {
     for (int i = 0; i < INPUTS; i++) free(g->in[i].at);
     for (int i = 0; i < OUTPUTS; i++) free(g->out[i].at);
 }
 
+static void free_batch(struct batch *b) {
+    free(b->descriptions.at), free(b->body.at);
+    for (int i = INDEX_DATA; i < INPUTS; i++) free(b->in[i].at);
+    for (int i = 0; i < OUTPUTS; i++) free(b->out[i].at);
+}
+
+static void run_line(char *line) {
+    const char *first = strtok(line, " \n");
+    struct gather g;
+    struct batch b;
+    if (first && !strcmp(first, "arrays")) read_batch(&b), run_whole_batch(&b), free_batch(&b);
+    else if (first) read_gather(first, &g), run_all(&g), free_gather(&g);
+}
+
 static void run_file(const char *path) {
     char line[LINE];
-    struct gather g;
     int cases = 0;
     where = path, line_number = 0;
     FILE *file = fopen(path, "r");
@@ -180,9 +371,7 @@ static void run_file(const char *path) {
     while (fgets(line, sizeof line, file)) {
         line_number++;
         if (line[0] == '#' || line[0] == '\n') continue;
-        read_gather(line, &g);
-        run_all(&g);
-        free_gather(&g);
+        run_line(line);
         cases++;
     }
     fclose(file);
@@ -215,6 +404,43 @@ static void run_trial_10(void) {
         for (int i = 0; i < OUTPUTS; i++) free(g.out[i].at);
     }
     puts("trial 10");
+}
+
+/* Trial 10 in a batch: with the row as a column of each sort that is named, the refusal is that of the first column that overflows, with its own place and total,
+   and comes before any of the next column. One index fewer, the columns' data adds up to more than 2^32 bytes, which is refused for space alone. */
+static void run_batch_10(void) {
+    enum { BITS, TEXT, LONG_TEXT, ITEMS, UNKNOWN };
+    static const struct hoglidra_column sorts[] = {
+        [BITS] = HOGLIDRA_COLUMN(HOGLIDRA_BOOLEAN, 0, 0, 0, 1, 0, 0, 0, 65536, 0, 0, 0, 0),
+        [TEXT] = HOGLIDRA_COLUMN(HOGLIDRA_BYTES, 0, 0, 4, 1, 0, 0, 0, 65536, 65536, 8, 0, 0),
+        [LONG_TEXT] = HOGLIDRA_COLUMN(HOGLIDRA_BYTES, 0, 0, 8, 1, 0, 0, 0, 65536, 65544, 16, 0, 0),
+        [ITEMS] = HOGLIDRA_COLUMN(HOGLIDRA_LIST, 1, 0, 4, 1, 0, 0, 0, 65536, 65536, 8, 0, 0),
+        [UNKNOWN] = HOGLIDRA_COLUMN(9, 0, 0, 0, 1, 0, 0, 0, 0, 0, 0, 0, 0),
+    };
+    static uint8_t body[65560] = { [65542] = 1, [65554] = 1 }, zeros[65536];
+    static const struct { uint64_t columns[3], count, want[4]; } trials[] = {
+        { { BITS, TEXT, UNKNOWN }, 32768, { HOGLIDRA_OVERFLOW, 32767, 2147483648u, 0 } },
+        { { BITS, ITEMS, UNKNOWN }, 32768, { HOGLIDRA_OVERFLOW, 32767, 2147418112u, 0 } },
+        { { LONG_TEXT, LONG_TEXT, TEXT }, 32768, { HOGLIDRA_OVERFLOW, 32767, 2147483648u, 0 } },
+        { { LONG_TEXT, BITS, UNKNOWN }, 32768, { HOGLIDRA_KIND, 0, 0, 0 } },
+        { { LONG_TEXT, BITS, LONG_TEXT }, 32768, { HOGLIDRA_SPACE, 3, UINT64_C(4294971392), 0 } },
+        { { TEXT, ITEMS, TEXT }, 32767, { HOGLIDRA_SPACE, 3, UINT64_C(6442254336), 0 } },
+        { { TEXT, BITS, ITEMS }, 32767, { HOGLIDRA_SPACE, 3, UINT64_C(4294840320), 0 } },
+    };
+    where = "trial 10 in a batch";
+    for (line_number = 0; line_number < (int)(sizeof trials / sizeof *trials); line_number++) {
+        struct hoglidra_column columns[3];
+        for (int k = 0; k < 3; k++) columns[k] = sorts[trials[line_number].columns[k]];
+        struct batch b = {
+            .columns = 3, .descriptions = { (uint8_t *)columns, sizeof columns }, .body = { body, sizeof body },
+            .numbers = { [INDEX_WIDTH] = 2, [COUNT] = trials[line_number].count }, .in = { [INDEX_DATA] = { zeros, sizeof zeros } },
+            .out = { lend(3 * 4096), lend(3 * 8 * 32769), lend(1) },
+        };
+        memcpy(b.answer, trials[line_number].want, sizeof b.answer);
+        run_whole_batch(&b);
+        for (int i = 0; i < OUTPUTS; i++) free(b.out[i].at);
+    }
+    puts("trial 10 in a batch");
 }
 
 /* Random numbers, the same at each run. */
@@ -291,24 +517,89 @@ static void run_made(struct gather *g) {
     run_needed(g);
 }
 
-/* Every kind, width, size, offset width and index width, by no rows and by some: without room for the data, if there is any, and then with it. */
+/* Gathers a made case without room for the data, if there is any, and then with it. */
+static void gather_made(struct gather *g) {
+    uint64_t count = g->numbers[COUNT];
+    g->out[OUT_VALIDITY] = lend((count + 7) / 8), g->out[OUT_OFFSETS] = lend(has_offsets(g) ? (count + 1) * g->numbers[OFFSET_WIDTH] : 0);
+    run_made(g);
+    if (g->answer[0] == HOGLIDRA_SPACE) g->out[OUT_DATA] = lend(g->answer[2]), run_made(g);
+    if (g->answer[0] != HOGLIDRA_GATHERED) fail("it is refused");
+}
+
+static const uint64_t widths[] = { 1, 2, 4, 8, 16, 32 }, sizes[] = { 0, 1, 2, 3, 4, 7, 8, 12, 15, 16, 17, 31, 32, 33, 64, 100 }, row_counts[] = { 0, 1, 2, 9 };
+
+/* Every kind, width, size, offset width and index width, by no rows and by some. */
 static void run_all_made(void) {
-    static const uint64_t widths[] = { 1, 2, 4, 8, 16, 32 }, sizes[] = { 0, 1, 2, 3, 4, 7, 8, 12, 15, 16, 17, 31, 32, 33, 64, 100 }, rows[] = { 0, 1, 2, 9 };
     where = "made", line_number = 0;
     for (uint64_t kind = HOGLIDRA_PRIMITIVE; kind <= HOGLIDRA_FIXED_SIZE_BINARY; kind++)
         for (int shape = 0; shape < 6 * 16 * 2; shape++)
             for (int turn = 0; turn < 4 * 4; turn++) {
                 line_number++;
                 uint64_t offset_width = shape % 2 ? 8 : 4, index_width = UINT64_C(1) << turn / 4;
-                struct gather g = make(kind, widths[shape / 2 % 6], sizes[shape / 12], offset_width, rows[turn % 4], index_width, (uint64_t)line_number % 41);
-                uint64_t count = g.numbers[COUNT];
-                g.out[OUT_VALIDITY] = lend((count + 7) / 8), g.out[OUT_OFFSETS] = lend(has_offsets(&g) ? (count + 1) * offset_width : 0);
-                run_made(&g);
-                if (g.answer[0] == HOGLIDRA_SPACE) g.out[OUT_DATA] = lend(g.answer[2]), run_made(&g);
-                if (g.answer[0] != HOGLIDRA_GATHERED) fail("it is refused");
+                struct gather g = make(kind, widths[shape / 2 % 6], sizes[shape / 12], offset_width, row_counts[turn % 4], index_width, (uint64_t)line_number % 41);
+                gather_made(&g);
                 free_gather(&g);
             }
     printf("made: %d cases\n", line_number);
+}
+
+/* Appends bytes to a buffer that has room for them. */
+static uint64_t append(struct buffer *to, const struct buffer *from) {
+    uint64_t start = to->len;
+    for (size_t k = 0; k < from->len; k++) to->at[to->len++] = from->at[k];
+    return start;
+}
+
+/* A batch of made columns and what they give by themselves. Their buffers lie in the body in random order, with bytes between them; buffers that are absent, and
+   offsets that are not used, are said to lie anywhere. */
+static void run_made_batch(uint64_t columns, uint64_t rows, uint64_t index_width) {
+    struct gather made[MAX];
+    struct hoglidra_column records[MAX];
+    struct batch b = { .columns = columns, .descriptions = { (uint8_t *)records, (size_t)columns * RECORD } };
+    uint64_t places[3 * MAX], starts[3 * MAX], lens[3 * MAX];
+    size_t body = 0, out[OUTPUTS] = { 0, 0, 0 };
+    for (uint64_t k = 0; k < columns; k++) {
+        made[k] = make(1 + below(6), widths[below(6)], sizes[below(16)], below(2) ? 4 : 8, rows, index_width, below(41));
+        struct gather *g = &made[k];
+        for (int i = INDEX_WIDTH; i < NUMBERS; i++) g->numbers[i] = made[0].numbers[i];
+        for (int i = INDEX_DATA; k && i < INPUTS; i++) free(g->in[i].at), g->in[i] = made[0].in[i];
+        gather_made(g);
+        for (int i = DATA; i <= VALIDITY; i++) body += g->in[i].len + 40, places[3 * k + (uint64_t)i] = 3 * k + (uint64_t)i;
+        for (int i = 0; i < OUTPUTS; i++) out[i] += g->out[i].len;
+        b.answer[2] += g->answer[2], b.answer[3] += g->answer[3];
+    }
+    b.body.at = filled(body);
+    for (int i = 0; i < OUTPUTS; i++) b.out[i].at = filled(out[i]);
+    for (uint64_t left = 3 * columns; left > 0; left--) {
+        uint64_t n = below(left), at = places[n], i = at % 3;
+        const struct gather *g = &made[at / 3];
+        places[n] = places[left - 1];
+        lens[at] = i == OFFSETS && !has_offsets(g) ? below(3) * 9999999 : g->in[i].len;
+        starts[at] = i == OFFSETS && !has_offsets(g) ? UINT64_MAX - below(9) : lens[at] ? append(&b.body, &g->in[i]) : UINT64_MAX - below(9);
+        b.body.len += slack();
+    }
+    for (uint64_t k = 0; k < columns; k++) {
+        const uint64_t *n = made[k].numbers, *s = starts + 3 * k, *l = lens + 3 * k;
+        const struct hoglidra_column c = HOGLIDRA_COLUMN(n[KIND], n[WIDTH], n[SIZE], n[OFFSET_WIDTH], n[ROWS], n[DATA_BIT], n[VALIDITY_BIT],
+            s[DATA], l[DATA], s[OFFSETS], l[OFFSETS], s[VALIDITY], l[VALIDITY]);
+        records[k] = c;
+        for (int i = 0; i < OUTPUTS; i++) append(&b.out[i], &made[k].out[i]);
+    }
+    memcpy(b.numbers, made[0].numbers, sizeof b.numbers), memcpy(b.in, made[0].in, sizeof b.in);
+    run_whole_batch(&b);
+    for (uint64_t k = columns; k-- > 0;) {
+        for (int i = INDEX_DATA; k && i < INPUTS; i++) made[k].in[i].at = NULL;
+        free_gather(&made[k]);
+    }
+    free(b.body.at);
+    for (int i = 0; i < OUTPUTS; i++) free(b.out[i].at);
+}
+
+static void run_made_batches(void) {
+    where = "made batches", line_number = 0;
+    for (uint64_t columns = 1; columns <= MAX; columns++)
+        for (uint64_t turn = 0; turn < 4 * 3; turn++) line_number++, run_made_batch(columns, row_counts[turn % 4], UINT64_C(2) << turn / 4);
+    printf("made batches: %d cases\n", line_number);
 }
 
 /* An answer of 31 bytes gets 7 before every other test, and nothing is written. */
@@ -318,6 +609,8 @@ static void run_short_answer(void) {
     memset(answer, FILL, sizeof answer);
     if (hoglidra_take(9, 9, 9, 9, 9, 9, 9, NULL, 0, NULL, 0, NULL, 0, 9, 9, 9, NULL, 0, NULL, 0, NULL, 0, NULL, 0, out, 1, answer, 31) != HOGLIDRA_SPACE)
         fail("the number returned differs");
+    if (hoglidra_take_arrays(99, NULL, 0, NULL, 0, 9, 9, 9, NULL, 0, NULL, 0, NULL, 0, NULL, 0, out, 1, answer, 31) != HOGLIDRA_SPACE)
+        fail("the number returned differs");
     for (int i = 0; i < HOGLIDRA_ANSWER_LEN; i++) if (answer[i] != FILL || out[0] != FILL) fail("a byte was written");
     puts("short answer");
 }
@@ -325,7 +618,9 @@ static void run_short_answer(void) {
 int main(int argc, char **argv) {
     for (int i = 1; i < argc; i++) run_file(argv[i]);
     run_trial_10();
+    run_batch_10();
     run_all_made();
+    run_made_batches();
     run_short_answer();
     return 0;
 }
