@@ -17,7 +17,7 @@ test-archive: $(archive)
 	nm $(archive) > target/symbols
 	! grep -i ' [bcdgs] ' target/symbols
 
-# Trials, published examples, published answers and made cases through the archive, also with no byte there that is not needed; the README's example, and the
+# Trials, published examples, published answers and made cases through the archive, also with no byte there that is not needed; the README's examples, and the
 # stack that a call uses.
 test-c: target/cases target/readme target/stack
 	valgrind --quiet --error-exitcode=1 --leak-check=full target/cases crates/vectors/data/*.txt
