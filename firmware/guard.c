@@ -5,7 +5,7 @@
 #include <stdint.h>
 #include <sys/mman.h>
 
-enum { PAGE = 4096, LIVE = 64 };
+enum { PAGE = 4096, LIVE = 512 };
 static struct { void *at, *map; size_t size; } live[LIVE];
 
 void *__wrap_malloc(size_t len);

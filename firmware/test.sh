@@ -1,7 +1,8 @@
 #!/usr/bin/env bash
 # The archives that build.sh made, run under qemu: test.sh [CORE...], all cores unless some are named. Each runs the C cases with every buffer before a page that
-# may not be touched (guard.c), the README's example, the example, the measure of the stack, and random gathers (random.c) that have to come out as they do from
-# the archive for x86-64, which is run so too. Then the tables of docs/FIRMWARE.md are printed. GATHERS is the number of random gathers, SEED their seed.
+# may not be touched (guard.c), the README's examples, the example, the measure of the stack, and random gathers (random.c) that have to come out as they do from
+# the archive for x86-64, which is run so too. Then the tables of docs/FIRMWARE.md are printed. GATHERS is the number of random gathers,
+# for each four of which there is a random batch; SEED is their seed.
 set -euo pipefail
 cd "$(dirname "$0")/.."
 . firmware/cores.sh
@@ -65,7 +66,7 @@ run_core() { # CORE
     {
         $run -plugin "$out/count.so,$(range "$dir/hoglidra.o" "$dir/cases")" "$dir/cases" crates/vectors/data/*.txt >"$dir/cases.stdout" 2>"$dir/cases.count" ||
             { tail -n 1 "$dir/cases.stdout"; fail "$1" "the cases"; }
-        $run "$dir/readme" >/dev/null || fail "$1" "the README's example"
+        $run "$dir/readme" >/dev/null || fail "$1" "the README's examples"
         $run "$dir/stack" >"$dir/stack.stdout" || { cat "$dir/stack.stdout"; fail "$1" "the stack, of which the header promises less"; }
         $run "$dir/ingredients" | diff examples/ingredients.stdout - || fail "$1" "the example"
         $run "$dir/random" "$gathers" "$seed" | cmp - "$out/random.stdout" || fail "$1" "random gathers"
@@ -76,7 +77,7 @@ run_core() { # CORE
     echo "$unaligned" >"$dir/unaligned"
     case $1 in cortex-m7*) run_board "$1" ;; esac
     echo "$1: $(awk '/cases$/ { n += $(NF - 1) } END { print n }' "$dir/cases.stdout") cases$(case $1 in cortex-m7*) echo ', also without an operating system' ;; esac)," \
-        "$gathers random gathers, README, example: passed; $(cat "$dir/stack.stdout"); $unaligned of $accesses accesses unaligned"
+        "$gathers random gathers and $((gathers / 4)) batches, README, example: passed; $(paste -sd ';' "$dir/stack.stdout" | sed 's/;/; /'); $unaligned of $accesses accesses unaligned"
 }
 
 # The cases and the example without an operating system: an emulated board with a Cortex-M7, newlib over semihosting.
@@ -99,8 +100,13 @@ instructions() { # PROGRAM LAYOUT NULLS EMULATOR...
     echo $(((many - few) / 100))
 }
 
-# The layouts of everyday.c that stand for the kinds in the table by core.
+# The layouts of everyday.c that stand for the kinds in the table by core, and the batch of them.
 of_each_kind=('kind 1, width 4' 'kind 2' 'kind 3, rows of 12, offsets of 4' 'kind 4, rows of 3 by 4, offsets of 4' 'kind 5, 3 by 4' 'kind 6, size 12')
+in_one_call='kinds 1 to 6 in one call'
+
+stack_of() { # CORE ENTRY
+    sed -n "s/^stack of $2: \([0-9]*\) .*/\1/p" "$out/$1/stack.stdout"
+}
 
 tables() { # CORE...
     local core layout name nulls run
@@ -113,11 +119,11 @@ tables() { # CORE...
         done <"$out/layouts" >"$out/$core/counts"
     done
     echo
-    echo "| core | code and constants | stack measured | all frames | left undefined | unaligned accesses |$(printf ' %.6s |' "${of_each_kind[@]}")"
-    echo "|---|---|---|---|---|---|$(printf -- '---|%.0s' "${of_each_kind[@]}")"
+    echo "| core | code and constants | stack, \`take\` | stack, \`take_arrays\` | all frames | left undefined | unaligned accesses |$(printf ' %.6s |' "${of_each_kind[@]}") all in one call |"
+    echo "|---|---|---|---|---|---|---|$(printf -- '---|%.0s' "${of_each_kind[@]}" "$in_one_call")"
     for core; do
-        echo "| $core | $(cat "$out/$core/code") | $(sed 's/[^0-9]//g' "$out/$core/stack.stdout") | $(cat "$out/$core/frames")" \
-            "| $(sed 's/.*/`&`/' "$out/$core/undefined" | paste -sd ' ' | grep . || echo none) | $(sed 's/^0$/none/; s/^[1-9].*/yes/' "$out/$core/unaligned") |$(for name in "${of_each_kind[@]}"; do grep -F "$name, 10 % null|" "$out/$core/counts" | sed 's/.*|\(.*\)/ \1 |/'; done | tr -d '\n')"
+        echo "| $core | $(cat "$out/$core/code") | $(stack_of "$core" hoglidra_take) | $(stack_of "$core" hoglidra_take_arrays) | $(cat "$out/$core/frames")" \
+            "| $(sed 's/.*/`&`/' "$out/$core/undefined" | paste -sd ' ' | grep . || echo none) | $(sed 's/^0$/none/; s/^[1-9].*/yes/' "$out/$core/unaligned") |$(for name in "${of_each_kind[@]}" "$in_one_call"; do grep -F "$name, 10 % null|" "$out/$core/counts" | sed 's/.*|\(.*\)/ \1 |/'; done | tr -d '\n')"
     done
     echo
     echo "| instructions, 40 rows of 4,096 |$(printf ' %s |' "$@")"
