@@ -70,8 +70,10 @@ static int most_of(void (*f)(void), uint64_t first_width) {
 }
 
 int main(void) {
+    static const uint64_t counts[] = { 1, 6, HOGLIDRA_MAX_COLUMNS };
     int take = most_of(gather, 1), take_arrays = 0;
-    for (columns = 1; columns <= HOGLIDRA_MAX_COLUMNS; columns += columns == 1 ? 5 : 26) {
+    for (size_t i = 0; i < sizeof counts / sizeof *counts; i++) {
+        columns = counts[i];
         int used = most_of(gather_batch, 2);
         if (used > take_arrays) take_arrays = used;
     }
