@@ -4,13 +4,14 @@ use core::fmt;
 /// What a gather that was not refused tells.
 #[derive(Clone, Copy, Debug, PartialEq, Eq)]
 pub struct Gathered {
-    /// Bytes of data written, at most the length of the lent data.
+    /// Bytes of data written, at most the length of the lent data; of a batch, by all columns.
     pub total: usize,
-    /// Null rows written, at most the number of indices.
+    /// Null rows written, at most the number of indices; of a batch, the sum over its columns.
     pub nulls: usize,
 }
 
-/// Why nothing was gathered, in the order in which the reasons are tested. No output byte changed.
+/// Why nothing was gathered, in the order in which [`take`](crate::take) tests the reasons. No
+/// output byte changed.
 ///
 /// ```
 /// use hoglidra::{take, Column, Indices, Kind, Output, Refusal};
@@ -35,9 +36,10 @@ pub enum Refusal {
     /// A width, an offset width or an index width that is not listed; of the [`raw`](crate::raw)
     /// entry, also an unknown kind.
     Kind,
-    /// A number or a buffer beyond its limit.
+    /// A number or a buffer beyond its limit; the number of a batch's columns among them.
     Limit,
-    /// A buffer of the column or of the indices is shorter than it needs to be.
+    /// A buffer of the column or of the indices is shorter than it needs to be, or ends past the
+    /// body of its batch.
     Short,
     /// An offset is negative, less than the one before it, or past the data.
     Offsets {
@@ -63,6 +65,8 @@ pub enum Refusal {
         /// The bytes that it needs. They may be more than memory can hold.
         needed: u64,
     },
+    /// The columns of a batch have different numbers of rows.
+    Rows,
 }
 
 /// One of the buffers of an [`Output`](crate::Output).
@@ -77,7 +81,7 @@ pub enum Buffer {
 }
 
 impl Refusal {
-    /// The number that the C entry returns for it, 1 to 7.
+    /// The number that the C entry returns for it, 1 to 8.
     pub const fn number(self) -> u64 {
         match self {
             Refusal::Kind => 1,
@@ -87,6 +91,7 @@ impl Refusal {
             Refusal::Range { .. } => 5,
             Refusal::Overflow { .. } => 6,
             Refusal::Space { .. } => 7,
+            Refusal::Rows => 8,
         }
     }
 }
@@ -107,6 +112,7 @@ impl fmt::Display for Refusal {
             Refusal::Space { buffer, needed } => {
                 write!(f, "{needed} bytes of {buffer} have to be lent")
             }
+            Refusal::Rows => f.write_str("the columns have different numbers of rows"),
         }
     }
 }
@@ -141,6 +147,7 @@ pub(crate) fn outcome([number, place, total, nulls]: [u64; 4]) -> Result<Gathere
         (7, 1) => space(Buffer::Validity),
         (7, 2) => space(Buffer::Offsets),
         (7, 3) => space(Buffer::Data),
+        (8, _) => Refusal::Rows,
         _ => unreachable!("the archive answered number {number}, place {place}"),
     })
 }
@@ -164,6 +171,7 @@ mod tests {
             ([7, 1, 9, 0], "9 bytes of validity have to be lent"),
             ([7, 2, 9, 0], "9 bytes of offsets have to be lent"),
             ([7, 3, 9, 0], "9 bytes of data have to be lent"),
+            ([8, 0, 0, 0], "the columns have different numbers of rows"),
         ];
         for (numbers, text) in told {
             let refusal = outcome(numbers).unwrap_err();
@@ -173,8 +181,8 @@ mod tests {
     }
 
     #[test]
-    #[should_panic(expected = "number 8")]
+    #[should_panic(expected = "number 9")]
     fn an_impossible_number_panics() {
-        let _ = outcome([8, 0, 0, 0]);
+        let _ = outcome([9, 0, 0, 0]);
     }
 }

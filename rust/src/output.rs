@@ -3,7 +3,7 @@ use crate::Kind;
 /// The buffers lent to a gather.
 ///
 /// What is written starts at each buffer's first byte; the bytes after it are kept. A refusal keeps
-/// them all.
+/// them all. The columns of a [`Batch`](crate::Batch) are written one after another.
 ///
 /// The lengths of validity and offsets follow from the number of indices, and so does that of the
 /// data, save where rows have lengths of their own. There [`take`](crate::take) tells it: lend no
