@@ -1,49 +1,73 @@
 //! Columns that are damaged in one place or in two: what is refused, with which number, and in
 //! which order.
 
-use crate::case::{Bytes, Case};
+use crate::case::{Bytes, Case, IndexColumn, Lent, Table};
 use crate::check::{check, randoms, Tally, GATHERED, SPACE};
 use crate::generate::{self, encode};
 use crate::random::Random;
 
-type Damage = fn(&mut Random, &mut Case);
-
-const TABLE: [Damage; 11] = [
-    |random, case| wreck_number(random, &mut case.table.kind),
-    |random, case| wreck_number(random, &mut case.table.width),
-    |random, case| wreck_number(random, &mut case.table.size),
-    |random, case| wreck_number(random, &mut case.table.offset_width),
-    |random, case| wreck_number(random, &mut case.table.rows),
-    |random, case| wreck_number(random, &mut case.table.data_bit),
-    |random, case| wreck_number(random, &mut case.table.validity_bit),
-    |random, case| wreck_length(random, &mut case.table.data),
-    |random, case| wreck_length(random, &mut case.table.offsets),
-    |random, case| wreck_length(random, &mut case.table.validity),
+const TABLE: [fn(&mut Random, &mut Table); 11] = [
+    |random, table| wreck_number(random, &mut table.kind),
+    |random, table| wreck_number(random, &mut table.width),
+    |random, table| wreck_number(random, &mut table.size),
+    |random, table| wreck_number(random, &mut table.offset_width),
+    |random, table| wreck_number(random, &mut table.rows),
+    |random, table| wreck_number(random, &mut table.data_bit),
+    |random, table| wreck_number(random, &mut table.validity_bit),
+    |random, table| wreck_length(random, &mut table.data),
+    |random, table| wreck_length(random, &mut table.offsets),
+    |random, table| wreck_length(random, &mut table.validity),
     wreck_offset,
 ];
 
-const INDICES: [Damage; 6] = [
-    |random, case| wreck_number(random, &mut case.indices.width),
-    |random, case| wreck_number(random, &mut case.indices.count),
-    |random, case| wreck_number(random, &mut case.indices.validity_bit),
-    |random, case| wreck_length(random, &mut case.indices.data),
-    |random, case| wreck_length(random, &mut case.indices.validity),
+/// The last number is that of the rows.
+const INDICES: [fn(&mut Random, &mut IndexColumn, u64); 6] = [
+    |random, indices, _| wreck_number(random, &mut indices.width),
+    |random, indices, _| wreck_number(random, &mut indices.count),
+    |random, indices, _| wreck_number(random, &mut indices.validity_bit),
+    |random, indices, _| wreck_length(random, &mut indices.data),
+    |random, indices, _| wreck_length(random, &mut indices.validity),
     wreck_index,
 ];
 
-const OUTPUT: [Damage; 3] = [
-    |random, case| wreck_length(random, &mut case.lent.validity),
-    |random, case| wreck_length(random, &mut case.lent.offsets),
-    |random, case| wreck_length(random, &mut case.lent.data),
+const OUTPUT: [fn(&mut Random, &mut Lent); 3] = [
+    |random, lent| wreck_length(random, &mut lent.validity),
+    |random, lent| wreck_length(random, &mut lent.offsets),
+    |random, lent| wreck_length(random, &mut lent.data),
 ];
 
-/// Damages the index column and nothing else.
-pub fn damage_indices(random: &mut Random, case: &mut Case) {
-    random.pick(&INDICES)(random, case);
+pub fn damage_table(random: &mut Random, table: &mut Table) {
+    random.pick(&TABLE)(random, table);
+}
+
+pub fn damage_indices(random: &mut Random, indices: &mut IndexColumn, rows: u64) {
+    random.pick(&INDICES)(random, indices, rows);
+}
+
+pub fn damage_output(random: &mut Random, lent: &mut Lent) {
+    random.pick(&OUTPUT)(random, lent);
+}
+
+pub fn damage_any(random: &mut Random, case: &mut Case) {
+    let which = random.below(DAMAGES as u64) as usize;
+    damage(random, case, which);
+}
+
+const DAMAGES: usize = TABLE.len() + INDICES.len() + OUTPUT.len();
+
+fn damage(random: &mut Random, case: &mut Case, which: usize) {
+    let rows = case.table.rows;
+    if let Some(damage) = TABLE.get(which) {
+        damage(random, &mut case.table);
+    } else if let Some(damage) = INDICES.get(which - TABLE.len()) {
+        damage(random, &mut case.indices, rows);
+    } else {
+        OUTPUT[which - TABLE.len() - INDICES.len()](random, &mut case.lent);
+    }
 }
 
 /// An edge, or one more or less than it was.
-fn wreck_number(random: &mut Random, number: &mut u64) {
+pub fn wreck_number(random: &mut Random, number: &mut u64) {
     *number = match random.below(4) {
         0 => number.wrapping_sub(1),
         1 => number.wrapping_add(1),
@@ -52,7 +76,7 @@ fn wreck_number(random: &mut Random, number: &mut u64) {
 }
 
 /// One byte short, one over, empty, or cut anywhere.
-fn wreck_length(random: &mut Random, buffer: &mut Bytes) {
+pub fn wreck_length(random: &mut Random, buffer: &mut Bytes) {
     let length = buffer.len();
     let wrecked = match random.below(6) {
         0..=2 => length.saturating_sub(1),
@@ -64,8 +88,7 @@ fn wreck_length(random: &mut Random, buffer: &mut Bytes) {
 }
 
 /// One offset that is negative, about the end of the data, or off by a little.
-fn wreck_offset(random: &mut Random, case: &mut Case) {
-    let table = &mut case.table;
+fn wreck_offset(random: &mut Random, table: &mut Table) {
     let held = match table.kind {
         3 => table.data.len() as u64,
         4 => table.data.len() as u64 / table.width.max(1),
@@ -88,10 +111,9 @@ fn wreck_offset(random: &mut Random, case: &mut Case) {
 }
 
 /// One index about the row count, or far off; a null one stays null.
-fn wreck_index(random: &mut Random, case: &mut Case) {
+fn wreck_index(random: &mut Random, indices: &mut IndexColumn, rows: u64) {
     let away = random.pick(&[-1, 0, 1]);
-    let wrecked = random.pick(&[case.table.rows.wrapping_add_signed(away), u64::MAX]);
-    let indices = &mut case.indices;
+    let wrecked = random.pick(&[rows.wrapping_add_signed(away), u64::MAX]);
     let last = indices.count.wrapping_sub(1);
     if let Some(index) = any_number(random, &mut indices.data, indices.width, last) {
         index.copy_from_slice(&encode(&[wrecked], indices.width));
@@ -119,12 +141,11 @@ fn expect(tally: &Tally, test: &str) {
 
 #[test]
 fn each_field_and_buffer_in_turn() {
-    let damages = [&TABLE[..], &INDICES, &OUTPUT].concat();
     let mut tally = Tally::default();
     for mut random in randoms(4, 160_000) {
         let mut case = generate::case(&mut random);
-        let turn = random.seed as usize % damages.len();
-        damages[turn](&mut random, &mut case);
+        let turn = random.seed as usize % DAMAGES;
+        damage(&mut random, &mut case, turn);
         tally.add(&case, &check(random.seed, &case));
     }
     expect(&tally, "one damage");
@@ -132,12 +153,11 @@ fn each_field_and_buffer_in_turn() {
 
 #[test]
 fn two_at_once() {
-    let damages = [&TABLE[..], &INDICES, &OUTPUT].concat();
     let mut tally = Tally::default();
     for mut random in randoms(5, 120_000) {
         let mut case = generate::case(&mut random);
         for _ in 0..2 {
-            random.pick(&damages)(&mut random, &mut case);
+            damage_any(&mut random, &mut case);
         }
         tally.add(&case, &check(random.seed, &case));
     }

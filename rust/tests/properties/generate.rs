@@ -21,9 +21,11 @@ const MOST_LENT: u64 = 1 << 23;
 /// A call on well-formed columns, with any output.
 pub fn case(random: &mut Random) -> Case {
     let table = table(random);
-    let indices = indices(random, table.rows);
+    let most = most_rows(random);
+    let indices = indices(random, table.rows, most);
     let slack = random.slack().len();
-    Case { lent: lent(random, &table, &indices), table, indices, answer: random.bytes(32 + slack) }
+    let needed = model::needed(&table, &indices);
+    Case { lent: lent(random, needed), table, indices, answer: random.bytes(32 + slack) }
 }
 
 fn table(random: &mut Random) -> Table {
@@ -33,9 +35,14 @@ fn table(random: &mut Random) -> Table {
         _ => most_rows(random),
     };
     let count = random.below(most + 1);
+    fill(random, &shape, count)
+}
+
+/// A column of the shape, with so many rows.
+pub fn fill(random: &mut Random, shape: &Table, count: u64) -> Table {
     let rows: Vec<Row> =
-        validity(random, count).into_iter().map(|valid| row(random, &shape, valid)).collect();
-    lay_out(random, &shape, &rows)
+        validity(random, count).into_iter().map(|valid| row(random, shape, valid)).collect();
+    lay_out(random, shape, &rows)
 }
 
 fn most_rows(random: &mut Random) -> u64 {
@@ -47,7 +54,7 @@ fn most_rows(random: &mut Random) -> u64 {
 }
 
 /// A kind with its numbers, no row yet. Fields that the kind does not use are anything.
-fn shape(random: &mut Random) -> Table {
+pub fn shape(random: &mut Random) -> Table {
     let kind = 1 + random.below(6);
     let size = match kind {
         5 | 6 if random.once_in(1000) => 65_536,
@@ -169,8 +176,7 @@ fn lay_out_bits(random: &mut Random, bits: &[bool], bit_offset: u64) -> Bytes {
 }
 
 /// Indices below `rows`, a few others, and anything under nulls.
-fn indices(random: &mut Random, rows: u64) -> IndexColumn {
-    let most = most_rows(random);
+pub fn indices(random: &mut Random, rows: u64, most: u64) -> IndexColumn {
     let count = random.below(most + 1);
     let strays = random.once_in(10);
     let indices: Vec<(bool, u64)> = validity(random, count)
@@ -199,8 +205,8 @@ pub fn lay_out_indices(random: &mut Random, width: u64, indices: &[(bool, u64)])
 }
 
 /// Outputs of the needed lengths, one short, empty or long, filled with anything.
-fn lent(random: &mut Random, table: &Table, indices: &IndexColumn) -> Lent {
-    let needed = model::needed(table, indices).unwrap_or([4, 40, 40]);
+pub fn lent(random: &mut Random, needed: Option<[u64; 3]>) -> Lent {
+    let needed = needed.unwrap_or([4, 40, 40]);
     let mut lengths = needed.map(|length| length.min(MOST_LENT));
     let one = &mut lengths[random.below(3) as usize];
     match random.below(10) {

@@ -1,9 +1,10 @@
 //! The archive against an independent model of the gather, and against the loops of `take.rs`, on
-//! generated columns, byte for byte.
+//! generated columns and batches of them, byte for byte.
 
 mod archive;
 #[path = "../../benches/take/arrow.rs"]
 mod arrow;
+mod batches;
 mod case;
 mod check;
 mod damage;

@@ -50,13 +50,13 @@ pub fn case(random: &mut Random) -> Case {
 }
 
 /// Mostly none; or the second row, which leads to the edge, is null.
-fn null_row(random: &mut Random) -> Bytes {
+pub fn null_row(random: &mut Random) -> Bytes {
     Bytes(if random.once_in(6) { vec![0b1101] } else { vec![] })
 }
 
 /// As many of the long row as go below the edge, and the row that leads to it, at its place or
 /// anywhere; now and then a null, an index that names no row, or another row.
-fn indices(random: &mut Random, below: u64) -> Vec<(bool, u64)> {
+pub fn indices(random: &mut Random, below: u64) -> Vec<(bool, u64)> {
     let mut indices: Vec<(bool, u64)> = vec![(true, 0); below as usize];
     for _ in 0..random.below(4) {
         let place = random.below(below + 1) as usize;
@@ -99,7 +99,7 @@ fn trial_10_overflow_before_space() {
         for (count, numbers) in [(32_768, [6, 32_767, told, 0]), (32_767, [7, 3, 2_147_418_112, 0])]
         {
             let case = long_row(kind, count);
-            let expected = Seen::new(&case, numbers, case.lent.clone());
+            let expected = Seen::new(&case.answer, numbers, case.lent.clone());
             agree(0, &case, &check(0, &case), &expected);
         }
     }

@@ -1,7 +1,7 @@
 //! Rows that no index reaches, and bytes that no row has, leave no trace in anything that is seen.
 
 use crate::archive;
-use crate::case::{Bytes, Case, Seen};
+use crate::case::{Bytes, Case, IndexColumn, Seen, Table};
 use crate::check::{check, randoms, Tally, GATHERED, SPACE};
 use crate::damage::damage_indices;
 use crate::generate::{self, lay_out, lay_out_indices, Row};
@@ -19,7 +19,7 @@ type Gather = fn(&Case) -> Seen;
 fn case(random: &mut Random) -> Case {
     let mut case = generate::case(random);
     if random.once_in(4) {
-        damage_indices(random, &mut case);
+        damage_indices(random, &mut case.indices, case.table.rows);
     }
     case
 }
@@ -31,15 +31,19 @@ fn blanked(_: &mut Random, case: &Case) -> Case {
 
 /// Other unreached rows: validity, values, and lengths where rows have their own.
 fn refilled(random: &mut Random, case: &Case) -> Case {
-    let reached = model::reached(&case.table, &case.indices);
-    let mut rows = owned_rows(case);
+    Case { table: refilled_table(random, &case.table, &case.indices), ..case.clone() }
+}
+
+pub fn refilled_table(random: &mut Random, table: &Table, indices: &IndexColumn) -> Table {
+    let reached = model::reached(table, indices);
+    let mut rows = owned_rows(table);
     for (row, reached) in rows.iter_mut().zip(reached) {
         if !reached {
             let valid = random.once_in(2);
-            *row = generate::row(random, &case.table, valid);
+            *row = generate::row(random, table, valid);
         }
     }
-    Case { table: lay_out(random, &case.table, &rows), ..case.clone() }
+    lay_out(random, table, &rows)
 }
 
 /// The same rows and indices amid other slack and spare bits, at other bit offsets and offsets.
@@ -51,11 +55,11 @@ fn laid_out_again(random: &mut Random, case: &Case) -> Case {
             (0..case.indices.count).map(|i| model::index(&case.indices, i)).collect();
         lay_out_indices(random, case.indices.width, &indices)
     };
-    Case { table: lay_out(random, &case.table, &owned_rows(case)), indices, ..case.clone() }
+    Case { table: lay_out(random, &case.table, &owned_rows(&case.table)), indices, ..case.clone() }
 }
 
-fn owned_rows(case: &Case) -> Vec<Row> {
-    let rows = model::rows(&case.table)
+fn owned_rows(table: &Table) -> Vec<Row> {
+    let rows = model::rows(table)
         .into_iter()
         .map(|row| Row { valid: row.valid, bytes: Bytes(row.bytes.to_vec()) });
     rows.collect()

@@ -46,7 +46,7 @@ fn gathers(random: &mut Random, case: Case, taken: &Taken) -> Seen {
     let case = Case { lent: Lent { validity, offsets, data }, ..case };
     let written = Lent { validity: written_validity, offsets: written_offsets, data: written_data };
     let seen = archive::gather(&case);
-    agree(random.seed, &case, &seen, &Seen::new(&case, [0, 0, total, nulls], written));
+    agree(random.seed, &case, &seen, &Seen::new(&case.answer, [0, 0, total, nulls], written));
     seen
 }
 
@@ -54,7 +54,7 @@ fn gathers(random: &mut Random, case: Case, taken: &Taken) -> Seen {
 fn stops(seed: u64, case: &Case, arrays: &Arrays) -> Seen {
     let seen = archive::gather(case);
     let place = seen.place().expect("a whole answer");
-    agree(seed, case, &seen, &Seen::new(case, [5, place, 0, 0], case.lent.clone()));
+    agree(seed, case, &seen, &Seen::new(&case.answer, [5, place, 0, 0], case.lent.clone()));
     let array = arrays.array();
     assert!(reference::take(&array, &arrays.indices(place)).is_ok(), "seed {seed:#x}");
     let next = arrays.indices(place + 1);

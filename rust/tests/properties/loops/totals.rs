@@ -148,7 +148,7 @@ fn refuses(seed: u64, case: &Case) -> Seen {
         }
         Err(error) => panic!("seed {seed:#x}: {error}\n{case:#?}"),
     };
-    agree(seed, case, &seen, &Seen::new(case, numbers, case.lent.clone()));
+    agree(seed, case, &seen, &Seen::new(&case.answer, numbers, case.lent.clone()));
     seen
 }
 

@@ -3,12 +3,14 @@
 //! It was written from the paper and the readings in docs/DECISIONS.md, without sight of the Rattle,
 //! so that it errs in other places than the archive does.
 
+mod batch;
 mod blank;
 mod refusals;
 mod rows;
 
+pub use batch::{batch_needed, columns, gather_batch, At};
 pub use blank::{blanked, reached};
-pub use refusals::{index_refused, needed, table_refused};
+pub use refusals::{index_refused, malformed, needed, table_refused};
 pub use rows::{index, rows, Row};
 
 use crate::case::{Bytes, Case, IndexColumn, Lent, Seen, Table};
@@ -19,31 +21,39 @@ pub fn gather(case: &Case) -> Seen {
         return Seen { returned: 7, answer: case.answer.clone(), lent: case.lent.clone() };
     }
     match refusals::refused(&case.table, &case.indices, &case.lent) {
-        Some(numbers) => Seen::new(case, numbers, case.lent.clone()),
+        Some(numbers) => Seen::new(&case.answer, numbers, case.lent.clone()),
         None => {
-            let (numbers, lent) = written(&case.table, &case.indices, &case.lent);
-            Seen::new(case, numbers, lent)
+            let (made, nulls) = made(&case.table, &case.indices);
+            gathered(&case.answer, &case.lent, &made, nulls)
         }
     }
 }
 
-/// The four numbers and the output of a gather that no refusal meets.
-fn written(table: &Table, indices: &IndexColumn, lent: &Lent) -> ([u64; 4], Lent) {
+/// The bytes that a gather makes which no refusal meets, and its null rows.
+fn made(table: &Table, indices: &IndexColumn) -> (Lent, u64) {
     let taken = rows::taken(table, indices);
-    let data = match table.kind {
-        2 => packed(taken.iter().map(|row| row.bytes[0] == 1)),
-        _ => taken.iter().flat_map(|row| row.bytes).copied().collect(),
-    };
-    let nulls = taken.iter().filter(|row| !row.valid).count() as u64;
-    let lent = Lent {
-        validity: over(&lent.validity, &packed(taken.iter().map(|row| row.valid))),
+    let made = Lent {
+        validity: Bytes(packed(taken.iter().map(|row| row.valid))),
         offsets: match table.kind {
-            3 | 4 => over(&lent.offsets, &offsets(table, &taken)),
-            _ => lent.offsets.clone(),
+            3 | 4 => Bytes(offsets(table, &taken)),
+            _ => Bytes::default(),
         },
-        data: over(&lent.data, &data),
+        data: Bytes(match table.kind {
+            2 => packed(taken.iter().map(|row| row.bytes[0] == 1)),
+            _ => taken.iter().flat_map(|row| row.bytes).copied().collect(),
+        }),
     };
-    ([0, 0, data.len() as u64, nulls], lent)
+    (made, taken.iter().filter(|row| !row.valid).count() as u64)
+}
+
+/// What is seen of a gather that made these bytes.
+fn gathered(answer: &Bytes, lent: &Lent, made: &Lent, nulls: u64) -> Seen {
+    let lent = Lent {
+        validity: over(&lent.validity, &made.validity),
+        offsets: over(&lent.offsets, &made.offsets),
+        data: over(&lent.data, &made.data),
+    };
+    Seen::new(answer, [0, 0, made.data.len() as u64, nulls], lent)
 }
 
 /// Offsets of rows that lie one after another from 0 on.

@@ -1,33 +1,55 @@
 //! The paper's refusals 1 to 7, in their order. Each test may rely on those before it.
 
 use super::rows::{entries, entry_width, index, offset, taken, Row};
-use crate::case::{Bytes, IndexColumn, Lent, Table};
+use crate::case::{IndexColumn, Lent, Table};
 
 const MOST_ROWS: u64 = 1_048_576;
 const MOST_SIZE: u64 = 65_536;
 const MOST_BIT: u64 = 7;
-const MOST_BYTES: usize = 16_777_216;
+const MOST_BYTES: u64 = 16_777_216;
 const MOST_OFFSET: u64 = 2_147_483_647;
+
+/// What is stated of a table's buffers: their lengths, and whether one that the kind uses ends past
+/// the bytes that were lent. The buffers of a cut one are empty, and never looked into.
+pub struct Stated {
+    pub data: u64,
+    pub offsets: u64,
+    pub validity: u64,
+    pub cut: bool,
+}
+
+impl Stated {
+    /// Of a table with buffers of its own.
+    fn own(table: &Table) -> Self {
+        Stated {
+            data: table.data.len() as u64,
+            offsets: table.offsets.len() as u64,
+            validity: table.validity.len() as u64,
+            cut: false,
+        }
+    }
+}
 
 /// The four numbers of the first refusal that is met.
 pub fn refused(table: &Table, indices: &IndexColumn, lent: &Lent) -> Option<[u64; 4]> {
-    refused_before_space(table, indices).or_else(|| {
-        let [validity, offsets, data] = sizes(table, &taken(table, indices));
-        space(1, &lent.validity, validity)
-            .or_else(|| space(2, &lent.offsets, offsets))
-            .or_else(|| space(3, &lent.data, data))
-    })
+    refused_before_space(table, &Stated::own(table), indices)
+        .or_else(|| space(lent, sizes(table, indices)))
 }
 
 /// The bytes that each output needs, if none of refusals 1 to 6 is met.
 pub fn needed(table: &Table, indices: &IndexColumn) -> Option<[u64; 3]> {
-    let refused = refused_before_space(table, indices).is_some();
-    (!refused).then(|| sizes(table, &taken(table, indices)))
+    let refused = refused_before_space(table, &Stated::own(table), indices).is_some();
+    (!refused).then(|| sizes(table, indices))
 }
 
 /// Whether one of refusals 1 to 4 meets the table by itself.
 pub fn table_refused(table: &Table) -> bool {
-    kind(table) || limit(table) || short(table) || bad_offset(table).is_some()
+    malformed(table, &Stated::own(table))
+}
+
+/// The same of a table of which so much is stated.
+pub fn malformed(table: &Table, stated: &Stated) -> bool {
+    kind(table) || limit(table, stated) || short(table, stated) || bad_offset(table).is_some()
 }
 
 /// Whether the index column is refused before the range test.
@@ -36,14 +58,18 @@ pub fn index_refused(indices: &IndexColumn) -> bool {
 }
 
 /// Refusals 1 to 6: all that does not depend on what is lent.
-fn refused_before_space(table: &Table, indices: &IndexColumn) -> Option<[u64; 4]> {
+pub fn refused_before_space(
+    table: &Table,
+    stated: &Stated,
+    indices: &IndexColumn,
+) -> Option<[u64; 4]> {
     if kind(table) || index_kind(indices) {
         return Some([1, 0, 0, 0]);
     }
-    if limit(table) || index_limit(indices) {
+    if limit(table, stated) || index_limit(indices) {
         return Some([2, 0, 0, 0]);
     }
-    if short(table) || index_short(indices) {
+    if short(table, stated) || index_short(indices) {
         return Some([3, 0, 0, 0]);
     }
     if let Some(place) = bad_offset(table) {
@@ -72,13 +98,13 @@ fn index_kind(indices: &IndexColumn) -> bool {
     !matches!(indices.width, 1 | 2 | 4 | 8)
 }
 
-fn limit(table: &Table) -> bool {
+fn limit(table: &Table, stated: &Stated) -> bool {
     table.rows > MOST_ROWS
-        || table.data.len() > MOST_BYTES
-        || validity_limit(&table.validity, table.validity_bit)
+        || stated.data > MOST_BYTES
+        || validity_limit(stated.validity, table.validity_bit)
         || match table.kind {
             2 => table.data_bit > MOST_BIT,
-            3 | 4 => table.offsets.len() > MOST_BYTES,
+            3 | 4 => stated.offsets > MOST_BYTES,
             5 | 6 => table.size > MOST_SIZE,
             _ => false,
         }
@@ -86,15 +112,15 @@ fn limit(table: &Table) -> bool {
 
 fn index_limit(indices: &IndexColumn) -> bool {
     indices.count > MOST_ROWS
-        || indices.data.len() > MOST_BYTES
-        || validity_limit(&indices.validity, indices.validity_bit)
+        || indices.data.len() as u64 > MOST_BYTES
+        || validity_limit(indices.validity.len() as u64, indices.validity_bit)
 }
 
-fn validity_limit(validity: &Bytes, bit_offset: u64) -> bool {
-    validity.len() > MOST_BYTES || !validity.is_empty() && bit_offset > MOST_BIT
+fn validity_limit(length: u64, bit_offset: u64) -> bool {
+    length > MOST_BYTES || length > 0 && bit_offset > MOST_BIT
 }
 
-fn short(table: &Table) -> bool {
+fn short(table: &Table, stated: &Stated) -> bool {
     let rows = table.rows;
     let data = match table.kind {
         1 => rows * table.width,
@@ -107,18 +133,19 @@ fn short(table: &Table) -> bool {
         3 | 4 => (rows + 1) * table.offset_width,
         _ => 0,
     };
-    data > table.data.len() as u64
-        || offsets > table.offsets.len() as u64
-        || validity_short(&table.validity, table.validity_bit, rows)
+    stated.cut
+        || data > stated.data
+        || offsets > stated.offsets
+        || validity_short(stated.validity, table.validity_bit, rows)
 }
 
 fn index_short(indices: &IndexColumn) -> bool {
     indices.count * indices.width > indices.data.len() as u64
-        || validity_short(&indices.validity, indices.validity_bit, indices.count)
+        || validity_short(indices.validity.len() as u64, indices.validity_bit, indices.count)
 }
 
-fn validity_short(validity: &Bytes, bit_offset: u64, rows: u64) -> bool {
-    !validity.is_empty() && (bit_offset + rows).div_ceil(8) > validity.len() as u64
+fn validity_short(length: u64, bit_offset: u64, rows: u64) -> bool {
+    length > 0 && (bit_offset + rows).div_ceil(8) > length
 }
 
 /// The first offset below 0, below the one before, or above the entries that the data holds.
@@ -158,8 +185,9 @@ fn overflow(table: &Table, taken: &[Row]) -> Option<(u64, u64)> {
     None
 }
 
-/// The bytes of validity, offsets and data that the rows take.
-fn sizes(table: &Table, taken: &[Row]) -> [u64; 3] {
+/// The bytes of validity, offsets and data that the taken rows need.
+pub fn sizes(table: &Table, indices: &IndexColumn) -> [u64; 3] {
+    let taken = taken(table, indices);
     let count = taken.len() as u64;
     let offsets = match table.kind {
         3 | 4 => (count + 1) * table.offset_width,
@@ -172,6 +200,9 @@ fn sizes(table: &Table, taken: &[Row]) -> [u64; 3] {
     [count.div_ceil(8), offsets, data]
 }
 
-fn space(place: u64, lent: &Bytes, needed: u64) -> Option<[u64; 4]> {
-    (needed > lent.len() as u64).then_some([7, place, needed, 0])
+/// Refusal 7 of the first output that is shorter than it needs to be.
+pub fn space(lent: &Lent, needed: [u64; 3]) -> Option<[u64; 4]> {
+    let lengths = [&lent.validity, &lent.offsets, &lent.data].map(|buffer| buffer.len() as u64);
+    let place = (0..3).find(|&i| needed[i] > lengths[i])?;
+    Some([7, place as u64 + 1, needed[place], 0])
 }

@@ -1,0 +1,9 @@
+//! Several columns in one call: `hoglidra_take_arrays`.
+
+mod damage;
+mod edges;
+mod generate;
+mod overflow;
+mod parts;
+mod privacy;
+mod well_formed;
