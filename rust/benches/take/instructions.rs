@@ -1,7 +1,9 @@
 //! Instructions a row, by valgrind's callgrind, which do not depend on what else the machine does.
 //!
 //! The benchmark runs itself under callgrind with `--counted`: there each side of each case is
-//! called once, in a function that callgrind zeroes its counts before and writes them down after.
+//! called once, by one function that callgrind zeroes its counts before and writes them down after,
+//! into files that it numbers from 1 on. It has to be one: of several functions callgrind 3.19 zeroes
+//! before the first alone.
 
 use std::env;
 use std::fs;
@@ -10,10 +12,19 @@ use std::path::Path;
 use std::process::Command;
 
 use crate::case::{Case, Order, LARGE};
-use crate::input::{Input, Ours, Rust};
+use crate::input::Input;
 
-const OURS: &str = "hoglidra_counted_ours";
-const RUST: &str = "hoglidra_counted_rust";
+const COUNTED: &str = "hoglidra_counted";
+
+#[no_mangle]
+#[inline(never)]
+fn hoglidra_counted(call: &mut dyn FnMut()) {
+    call();
+}
+
+fn count<T>(mut call: impl FnMut() -> T) {
+    hoglidra_counted(&mut || drop(black_box(call())));
+}
 
 /// Of the cases those by random indices of 4 bytes, at the two sizes that do not take minutes.
 pub fn counted(cases: &[Case]) -> Vec<Case> {
@@ -27,21 +38,11 @@ pub fn run(cases: &[Case]) {
     for case in cases {
         let mut input = Input::new(*case);
         input.compare();
-        hoglidra_counted_ours(&mut input.ours());
-        hoglidra_counted_rust(&input.rust());
+        let mut ours = input.ours();
+        count(|| ours.take());
+        let rust = input.rust();
+        count(|| rust.take());
     }
-}
-
-#[no_mangle]
-#[inline(never)]
-fn hoglidra_counted_ours(ours: &mut Ours) {
-    black_box(ours.take());
-}
-
-#[no_mangle]
-#[inline(never)]
-fn hoglidra_counted_rust(rust: &Rust) {
-    let _ = black_box(rust.take());
 }
 
 /// Runs the benchmark under callgrind and prints a line a case.
@@ -53,10 +54,8 @@ pub fn print(cases: &[Case], words: &[String]) {
     let mut valgrind = Command::new("valgrind");
     valgrind.args(["--quiet", "--tool=callgrind"]);
     valgrind.arg(format!("--callgrind-out-file={}", counts.display()));
-    for function in [OURS, RUST] {
-        valgrind.arg(format!("--zero-before={function}"));
-        valgrind.arg(format!("--dump-after={function}"));
-    }
+    valgrind.arg(format!("--zero-before={COUNTED}"));
+    valgrind.arg(format!("--dump-after={COUNTED}"));
     valgrind.arg(env::current_exe().expect("this program")).arg("--counted").args(words);
     assert!(valgrind.status().expect("valgrind").success(), "the counted run failed");
 
