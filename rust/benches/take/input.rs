@@ -7,7 +7,7 @@ use hoglidra::raw::{self, Call};
 use hoglidra::{Bitmap, Column, Indices, Kind, Output};
 
 use crate::arrow;
-use crate::case::{Case, Order};
+use crate::case::{Case, Layout, Order};
 use crate::reference::{self, Array, Error, IndexArray, Taken};
 
 /// Bytes that start on a cache line, as arrow allocates them.
@@ -21,11 +21,11 @@ pub struct Buffer {
 struct Line([u8; 64]);
 
 impl Buffer {
-    fn filled(len: usize, byte: u8) -> Self {
+    pub fn filled(len: usize, byte: u8) -> Self {
         Buffer { lines: vec![Line([byte; 64]); len.div_ceil(64)], len }
     }
 
-    fn new(bytes: &[u8]) -> Self {
+    pub fn new(bytes: &[u8]) -> Self {
         let mut buffer = Buffer::filled(bytes.len(), 0);
         buffer.bytes_mut().copy_from_slice(bytes);
         buffer
@@ -36,14 +36,14 @@ impl Buffer {
         unsafe { std::slice::from_raw_parts(self.lines.as_ptr().cast(), self.len) }
     }
 
-    fn bytes_mut(&mut self) -> &mut [u8] {
+    pub fn bytes_mut(&mut self) -> &mut [u8] {
         // SAFETY: as above.
         unsafe { std::slice::from_raw_parts_mut(self.lines.as_mut_ptr().cast(), self.len) }
     }
 }
 
 /// Random numbers (splitmix64).
-struct Random(u64);
+pub struct Random(pub u64);
 
 impl Random {
     fn number(&mut self) -> u64 {
@@ -59,8 +59,37 @@ impl Random {
         words.take(len).collect()
     }
 
+    /// Data and offsets of a column.
+    pub fn values(&mut self, layout: Layout, rows: usize) -> (Vec<u8>, Vec<u8>) {
+        match layout.kind {
+            Kind::Boolean { .. } => (self.bytes(rows.div_ceil(8)), Vec::new()),
+            Kind::Bytes { offset_width } => runs(self, rows, layout.row_bytes, 1, offset_width),
+            Kind::List { width, offset_width } => {
+                runs(self, rows, layout.row_bytes, width, offset_width)
+            }
+            _ => (self.bytes(rows * layout.row_bytes), Vec::new()),
+        }
+    }
+
+    pub fn indices(&mut self, rows: usize, count: usize, width: usize, order: Order) -> Vec<u8> {
+        let named = match width {
+            1 => rows.min(1 << 8),
+            2 => rows.min(1 << 16),
+            _ => rows,
+        };
+        let mut data = Vec::with_capacity(count * width);
+        for i in 0..count {
+            let row = match order {
+                Order::Random => self.number() as usize % named,
+                Order::Sequential => i % named,
+            };
+            data.extend_from_slice(&row.to_le_bytes()[..width]);
+        }
+        data
+    }
+
     /// Bits of which so many of a hundred are 0; no buffer where none is.
-    fn validity(&mut self, len: usize, nulls: u64) -> Option<Buffer> {
+    pub fn validity(&mut self, len: usize, nulls: u64) -> Option<Buffer> {
         let byte = |random: &mut Random, from: usize| {
             let bits = from..len.min(from + 8);
             bits.map(|i| ((random.number() % 100 >= nulls) as u8) << (i - from)).sum()
@@ -87,29 +116,8 @@ impl Input {
     pub fn new(case: Case) -> Self {
         let Case { layout, rows, count, index_width, nulls, order, .. } = case;
         let mut random = Random(1);
-        let (data, offsets, offset_width) = match layout.kind {
-            Kind::Boolean { .. } => (random.bytes(rows.div_ceil(8)), Vec::new(), 0),
-            Kind::Bytes { offset_width } => {
-                runs(&mut random, rows, layout.row_bytes, 1, offset_width)
-            }
-            Kind::List { width, offset_width } => {
-                runs(&mut random, rows, layout.row_bytes, width, offset_width)
-            }
-            _ => (random.bytes(rows * layout.row_bytes), Vec::new(), 0),
-        };
-        let named = match index_width {
-            1 => rows.min(1 << 8),
-            2 => rows.min(1 << 16),
-            _ => rows,
-        };
-        let mut index_data = Vec::with_capacity(count * index_width);
-        for i in 0..count {
-            let row = match order {
-                Order::Random => random.number() as usize % named,
-                Order::Sequential => i % named,
-            };
-            index_data.extend_from_slice(&row.to_le_bytes()[..index_width]);
-        }
+        let (data, offsets) = random.values(layout, rows);
+        let index_data = random.indices(rows, count, index_width, order);
         let mut input = Input {
             case,
             data: Buffer::new(&data),
@@ -118,7 +126,7 @@ impl Input {
             index_data: Buffer::new(&index_data),
             index_validity: random.validity(count, nulls.indices),
             out_validity: Buffer::filled(count.div_ceil(8), 0xAA),
-            out_offsets: Buffer::filled((count + 1) * offset_width, 0xAA),
+            out_offsets: Buffer::filled(Output::offsets_len(layout.kind, count), 0xAA),
             out_data: Buffer::filled(0, 0xAA),
         };
         // Refused for want of space, and so told how many bytes the data needs.
@@ -180,15 +188,7 @@ impl Input {
             let size = reference::size(&rust.array, &rust.indices);
             assert_eq!(size.ok(), Some(taken.data.bytes().len()), "{case}: size");
         }
-        let all_valid = || {
-            let mut bits = vec![0xFF; case.count.div_ceil(8)];
-            if case.count % 8 != 0 {
-                bits[case.count / 8] = (1 << (case.count % 8)) - 1;
-            }
-            Cow::Owned(bits)
-        };
-        let bits = taken.nulls.as_ref().map_or_else(all_valid, |nulls| nulls.bits.clone());
-        assert!(self.out_validity.bytes() == &*bits, "{case}: validity");
+        assert!(self.out_validity.bytes() == &*validity(&taken, case.count), "{case}: validity");
         assert!(self.out_offsets.bytes() == taken.offsets.bytes(), "{case}: offsets");
         assert!(self.out_data.bytes() == taken.data.bytes(), "{case}: data");
         assert_eq!(total as usize, taken.data.bytes().len(), "{case}: total");
@@ -229,7 +229,7 @@ fn runs(
     row_bytes: usize,
     unit: usize,
     offset_width: usize,
-) -> (Vec<u8>, Vec<u8>, usize) {
+) -> (Vec<u8>, Vec<u8>) {
     let average = row_bytes / unit;
     let mut end = 0u64;
     let mut offsets = vec![0; offset_width];
@@ -240,15 +240,32 @@ fn runs(
         end = (end + random.number() % (2 * average as u64 + 1)).min(most);
         offsets.extend_from_slice(&end.to_le_bytes()[..offset_width]);
     }
-    (random.bytes(end as usize * unit), offsets, offset_width)
+    (random.bytes(end as usize * unit), offsets)
 }
 
-fn bitmap(validity: &Option<Buffer>) -> Option<Bitmap<'_>> {
+/// The validity of what the Rust side took: ones where it has none.
+pub fn validity<'a>(taken: &'a Taken, count: usize) -> Cow<'a, [u8]> {
+    match &taken.nulls {
+        Some(nulls) => Cow::Borrowed(&nulls.bits),
+        None => {
+            let mut bits = vec![0xFF; count.div_ceil(8)];
+            if count % 8 != 0 {
+                bits[count / 8] = (1 << (count % 8)) - 1;
+            }
+            Cow::Owned(bits)
+        }
+    }
+}
+
+pub fn bitmap(validity: &Option<Buffer>) -> Option<Bitmap<'_>> {
     validity.as_ref().map(|bits| Bitmap { bytes: bits.bytes(), bit_offset: 0 })
 }
 
 fn nulls(validity: &Option<Buffer>, len: usize) -> Option<arrow::Nulls<'_>> {
-    let bits = validity.as_ref()?.bytes();
+    validity.as_ref().map(|bits| counted_nulls(bits.bytes(), len))
+}
+
+pub fn counted_nulls(bits: &[u8], len: usize) -> arrow::Nulls<'_> {
     let null_count = len - arrow::count_set_bits(bits, len);
-    Some(arrow::Nulls { bits: Cow::Borrowed(bits), len, null_count })
+    arrow::Nulls { bits: Cow::Borrowed(bits), len, null_count }
 }

@@ -11,6 +11,7 @@ use std::hint::black_box;
 use std::path::Path;
 use std::process::Command;
 
+use crate::batch::{BatchCase, BatchInput};
 use crate::case::{Case, Order, LARGE};
 use crate::input::Input;
 
@@ -34,7 +35,7 @@ pub fn counted(cases: &[Case]) -> Vec<Case> {
 }
 
 /// What runs under callgrind.
-pub fn run(cases: &[Case]) {
+pub fn run(cases: &[Case], batches: &[BatchCase]) {
     for case in cases {
         let mut input = Input::new(*case);
         input.compare();
@@ -43,10 +44,20 @@ pub fn run(cases: &[Case]) {
         let rust = input.rust();
         count(|| rust.take());
     }
+    for case in batches {
+        let mut input = BatchInput::new(*case);
+        input.compare();
+        let mut ours = input.ours();
+        count(|| ours.take());
+        let mut in_turn = input.in_turn();
+        count(|| in_turn.take());
+        let rust = input.rust();
+        count(|| rust.take());
+    }
 }
 
 /// Runs the benchmark under callgrind and prints a line a case.
-pub fn print(cases: &[Case], words: &[String]) {
+pub fn print(cases: &[Case], batches: &[BatchCase], words: &[String]) {
     let directory = Path::new(env!("CARGO_MANIFEST_DIR")).join("../target/callgrind");
     let _ = fs::remove_dir_all(&directory);
     fs::create_dir_all(&directory).expect("a directory for the counts");
@@ -59,22 +70,62 @@ pub fn print(cases: &[Case], words: &[String]) {
     valgrind.arg(env::current_exe().expect("this program")).arg("--counted").args(words);
     assert!(valgrind.status().expect("valgrind").success(), "the counted run failed");
 
-    println!("| instructions a row | ours | Rust | ratio |");
-    println!("|---|---|---|---|");
-    let (mut logarithms, mut worst) = (0.0, 0.0f64);
-    for (i, case) in cases.iter().enumerate() {
-        let of = |part: usize| {
-            let file = directory.join(format!("counts.{}", 2 * i + part));
-            total(&fs::read_to_string(&file).expect("a file of counts")) / case.count as f64
-        };
-        let (ours, rust) = (of(1), of(2));
-        let ratio = ours / rust;
-        println!("| {case} | {ours:.1} | {rust:.1} | {ratio:.2} |");
-        logarithms += ratio.ln();
-        worst = worst.max(ratio);
+    let mut files = 1..;
+    let mut next = || {
+        let file = directory.join(format!("counts.{}", files.next().expect("a number")));
+        total(&fs::read_to_string(&file).expect("a file of counts"))
+    };
+    if !cases.is_empty() {
+        println!("| instructions a row | ours | Rust | ratio |");
+        println!("|---|---|---|---|");
     }
-    let mean = (logarithms / cases.len() as f64).exp();
-    println!("{} cases: geometric mean {mean:.2}, worst {worst:.2}", cases.len());
+    let mut ratios = Ratios::default();
+    for case in cases {
+        let [ours, rust] = [next(), next()].map(|count| count / case.count as f64);
+        let ratio = ratios.add(ours, rust);
+        println!("| {case} | {ours:.1} | {rust:.1} | {ratio:.2} |");
+    }
+    ratios.print("cases");
+    if !batches.is_empty() {
+        println!("| instructions a row of a column | ours | separate calls | Rust | ratios |");
+        println!("|---|---|---|---|---|");
+    }
+    let [mut to_calls, mut to_rust] = [Ratios::default(), Ratios::default()];
+    for case in batches {
+        let rows = (case.size.count * case.columns) as f64;
+        let [ours, in_turn, rust] = [next(), next(), next()].map(|count| count / rows);
+        let ratios = [to_calls.add(ours, in_turn), to_rust.add(ours, rust)];
+        let [calls, loops] = ratios.map(|ratio| format!("{ratio:.2}"));
+        println!("| {case} | {ours:.1} | {in_turn:.1} | {rust:.1} | {calls}, {loops} |");
+    }
+    to_calls.print("batches / separate calls");
+    to_rust.print("batches / Rust");
+}
+
+/// Their geometric mean and the worst.
+#[derive(Default)]
+struct Ratios {
+    count: usize,
+    logarithms: f64,
+    worst: f64,
+}
+
+impl Ratios {
+    fn add(&mut self, ours: f64, other: f64) -> f64 {
+        let ratio = ours / other;
+        self.count += 1;
+        self.logarithms += ratio.ln();
+        self.worst = self.worst.max(ratio);
+        ratio
+    }
+
+    fn print(&self, of: &str) {
+        let Ratios { count, logarithms, worst } = *self;
+        if count > 0 {
+            let mean = (logarithms / count as f64).exp();
+            println!("{count} {of}: geometric mean {mean:.2}, worst {worst:.2}");
+        }
+    }
 }
 
 /// The sum that a file of counts ends with.

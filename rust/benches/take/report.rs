@@ -1,7 +1,9 @@
-//! The results of timing: a line a case, a table by layout and size, and one line over all.
+//! The results of timing: a line a case, a table by layout and size, and one line over all; then the
+//! same of batches, by their number of columns.
 
+use crate::batch::{self, BatchCase};
 use crate::case::{self, Case, SIZES, SMALL};
-use crate::timing::Times;
+use crate::timing::{BatchTimes, Times};
 
 pub fn print(results: &[(Case, Times)]) {
     let ratios: Vec<(Case, f64)> =
@@ -28,7 +30,40 @@ pub fn print(results: &[(Case, Times)]) {
     println!("{} cases: geometric mean {mean:.2}, worst {worst:.2}", ratios.len());
 }
 
-fn summary(ratios: &[(Case, f64)], chosen: impl Fn(&Case) -> bool) -> String {
+pub fn print_batches(results: &[(BatchCase, BatchTimes)]) {
+    let ratios = |other: fn(&BatchTimes) -> f64| -> Vec<(BatchCase, f64)> {
+        results.iter().map(|(case, times)| (*case, times.ours / other(times))).collect()
+    };
+    let sides =
+        [("separate calls", ratios(|times| times.in_turn)), ("Rust", ratios(|times| times.rust))];
+    println!();
+    for (i, (case, times)) in results.iter().enumerate() {
+        let rows = (case.size.count * case.columns) as f64;
+        let [ours, in_turn, rust] = [times.ours, times.in_turn, times.rust].map(|time| time / rows);
+        let [(_, to_calls), (_, to_rust)] = sides.each_ref().map(|(_, ratios)| ratios[i]);
+        println!(
+            "{case}: {ours:.2}, {in_turn:.2} and {rust:.2} ns a row of a column, \
+             ratio {to_calls:.2} to separate calls, {to_rust:.2} to Rust"
+        );
+    }
+    println!();
+    println!("| take_arrays: mean (worst) | 65,536 by 100,000 | 4,096 by 40 |");
+    println!("|---|---|---|");
+    for (side, ratios) in &sides {
+        for columns in batch::COLUMNS {
+            let cell = |size| summary(ratios, |case| case.columns == columns && case.size == size);
+            println!("| {columns} columns / {side} | {} |", batch::SIZES.map(cell).join(" | "));
+        }
+    }
+    println!();
+    for (side, ratios) in &sides {
+        let (mean, worst) = mean_and_worst(ratios.iter().map(|(_, ratio)| *ratio));
+        let batches = ratios.len();
+        println!("{batches} batches / {side}: geometric mean {mean:.2}, worst {worst:.2}");
+    }
+}
+
+fn summary<C>(ratios: &[(C, f64)], chosen: impl Fn(&C) -> bool) -> String {
     let of = ratios.iter().filter(|(case, _)| chosen(case)).map(|(_, ratio)| *ratio);
     let (mean, worst) = mean_and_worst(of);
     if worst == 0.0 {

@@ -4,6 +4,7 @@
 use std::hint::black_box;
 use std::time::{Duration, Instant};
 
+use crate::batch::{BatchCase, BatchInput};
 use crate::case::Case;
 use crate::input::Input;
 
@@ -23,29 +24,63 @@ pub struct Times {
     pub rust: f64,
 }
 
-pub fn measure(cases: &[Case]) -> Vec<(Case, Times)> {
-    let none = Times { ours: f64::INFINITY, rust: f64::INFINITY };
+/// The same of a batch, and of a call of ours for each column.
+#[derive(Clone, Copy)]
+pub struct BatchTimes {
+    pub ours: f64,
+    pub in_turn: f64,
+    pub rust: f64,
+}
+
+type Results = (Vec<(Case, Times)>, Vec<(BatchCase, BatchTimes)>);
+
+pub fn measure(cases: &[Case], batches: &[BatchCase]) -> Results {
+    let most = f64::INFINITY;
+    let none = Times { ours: most, rust: most };
+    let none_of_batch = BatchTimes { ours: most, in_turn: most, rust: most };
     let mut results: Vec<_> = cases.iter().map(|case| (*case, none)).collect();
+    let mut batch_results: Vec<_> = batches.iter().map(|case| (*case, none_of_batch)).collect();
     for round in 1..=ROUNDS {
-        eprintln!("round {round} of {ROUNDS}, {} cases", cases.len());
+        eprintln!("round {round} of {ROUNDS}, {} cases", cases.len() + batches.len());
         for (case, best) in &mut results {
             time(*case, best);
         }
+        for (case, best) in &mut batch_results {
+            time_batch(*case, best);
+        }
     }
-    results
+    (results, batch_results)
 }
 
 fn time(case: Case, best: &mut Times) {
     let mut input = Input::new(case);
     input.compare();
-    let once = nanoseconds(3, || input.ours().take());
-    let calls = (RUN.as_nanos() as f64 / once).ceil() as u32;
+    let calls = calls(nanoseconds(3, || input.ours().take()));
     for _ in 0..RUNS {
         let mut ours = input.ours();
         best.ours = best.ours.min(nanoseconds(calls, || ours.take()));
         let rust = input.rust();
         best.rust = best.rust.min(nanoseconds(calls, || rust.take()));
     }
+}
+
+fn time_batch(case: BatchCase, best: &mut BatchTimes) {
+    let mut input = BatchInput::new(case);
+    input.compare();
+    let calls = calls(nanoseconds(3, || input.ours().take()));
+    for _ in 0..RUNS {
+        let mut ours = input.ours();
+        best.ours = best.ours.min(nanoseconds(calls, || ours.take()));
+        let mut in_turn = input.in_turn();
+        best.in_turn = best.in_turn.min(nanoseconds(calls, || in_turn.take()));
+        let rust = input.rust();
+        best.rust = best.rust.min(nanoseconds(calls, || rust.take()));
+    }
+}
+
+/// How often a call of so many nanoseconds is repeated in a run.
+fn calls(once: f64) -> u32 {
+    (RUN.as_nanos() as f64 / once).ceil() as u32
 }
 
 fn nanoseconds<T>(calls: u32, mut call: impl FnMut() -> T) -> f64 {
