@@ -24,8 +24,8 @@ use Rattle.gathers.specs.Stored.{neededLengths, joinedLengths}
 use Rattle.gathers.specs.Gather.{throughLines}
 use Rattle.gathers.specs.Ready.{InRange}
 use Rattle.batches.specs.Batch.{Batch, batchIn, takenFrom, batchLines}
-use Rattle.described.specs.declared.column.Needs.{Needs}
-use Rattle.arrays.specs.Told.{ToldOf, FirstPassed, AllToldOf}
+use Rattle.described.specs.declared.column.Through.{Through}
+use Rattle.arrays.specs.Told.{FirstPassed, AllToldOf}
 use Rattle.bits.proofs.Sequences.{below-suc, sum-le, sum-const}
 use Rattle.tables.proofs.Bodies.{column-table}
 use Rattle.tables.proofs.Lines.{none-met-passes, none-met-accepts, lines-pass, lines-refused}
@@ -33,7 +33,8 @@ use Rattle.gathers.proofs.Stages.{through-refusing}
 use Rattle.gathers.proofs.Joining.{needed-small}
 use Rattle.batches.proofs.Refused.{columns-refusing}
 use Rattle.batches.proofs.Passed.{some-columns, few-columns, all-described, rows-equal, column-ready}
-use Rattle.arrays.proofs.Through.{lets-pass, refuses, not-fit}
+use Rattle.described.specs.Told.{ToldOf}
+use Rattle.described.proofs.Columns.{lets-pass, refuses, not-fit}
 
 -- the first i columns pass through overflow, and these are the lengths that they need together
 pub record Counted (b : Batch) (x : IndexColumn) (i validity offsets «data» : ℕ) : Type 0 where
@@ -69,7 +70,7 @@ module _ (b : Batch) (x : IndexColumn) where
 
   -- ---- one column more
 
-  module _ {i validity offsets «data» : ℕ} (c : Counted b x i validity offsets «data») (h : i < b .count) (m : Needs) (t : ToldOf (b .column i) x m) where
+  module _ {i validity offsets «data» : ℕ} (c : Counted b x i validity offsets «data») (h : i < b .count) (m : Through) (t : ToldOf false (b .column i) x m) where
     -- it refuses: its refusal is that of the columns
     pub rest-refused : {r : Refusal} → m .checked ≡ Unfit r → AllToldOf b x m
     rest-refused f =
@@ -86,9 +87,9 @@ module _ (b : Batch) (x : IndexColumn) where
       counted-more = record {
         inside = omega arith;
         passed = rw add-one all-passed;
-        of-validity = rw (add-one, c .of-validity, ap (λ (n : Lengths). n .validity) (t .1 f));
-        of-offsets = rw (add-one, c .of-offsets, ap (λ (n : Lengths). n .offsets) (t .1 f));
-        of-data = rw (add-one, c .of-data, ap (λ (n : Lengths). n .«data») (t .1 f));
+        of-validity = rw (add-one, c .of-validity, ap (λ (n : Lengths). n .validity) (t .1 f .0));
+        of-offsets = rw (add-one, c .of-offsets, ap (λ (n : Lengths). n .offsets) (t .1 f .0));
+        of-data = rw (add-one, c .of-data, ap (λ (n : Lengths). n .«data») (t .1 f .0));
       }
 
       -- the sums are far below what a number of 64 bits holds
@@ -101,7 +102,7 @@ module _ (b : Batch) (x : IndexColumn) where
           λ k l. needed-small (b .column k) x (column-ready b x k (all-passed k l)) in
           let last = each i (omega arith) in
           let n : i ≤ 32 = omega arith in
-          let e = t .1 f in (
+          let e = t .1 f .0 in (
             omega (arith, c .of-validity, small-sum i (λ k. need k .validity) bound (λ k l. each k (omega arith) .0) n, last .0, ap (λ (n : Lengths). n .validity) e),
             omega (arith, c .of-offsets, small-sum i (λ k. need k .offsets) bound (λ k l. each k (omega arith) .1) n, last .1, ap (λ (n : Lengths). n .offsets) e),
             omega (arith, c .of-data, small-sum i (λ k. need k .«data») bound (λ k l. each k (omega arith) .2) n, last .2, ap (λ (n : Lengths). n .«data») e),
@@ -110,7 +111,7 @@ module _ (b : Batch) (x : IndexColumn) where
   -- ---- the end: every column passes
 
   pub rest-told : {i validity offsets «data» : ℕ} → Counted b x i validity offsets «data» → i ≡ b .count
-      → AllToldOf b x (record { checked = Fit; needed = record { «data» = «data»; offsets = offsets; validity = validity } })
+      → AllToldOf b x (record { checked = Fit; needed = record { «data» = «data»; offsets = offsets; validity = validity }; outside = false })
   rest-told c e =
       let through : ℕ → List Line = λ k. throughLines (b .column k) x in
       let p : passes (firstOf (linesOf (b .count) through)) ≡ true = lines-pass through (λ k. through-refusing (b .column k) x) (b .count) (rw e at (c .passed)) in (

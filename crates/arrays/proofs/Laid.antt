@@ -23,7 +23,7 @@ use Rattle.gathers.specs.Ready.{Ready, NoOverflow}
 use Rattle.batches.specs.Batch.{Batch, takenFrom}
 use Rattle.batches.specs.Passed.{Passed}
 use Rattle.described.specs.declared.column.Taken.{Taken}
-use Rattle.described.specs.Needs.{takenOf, HasRoomFor}
+use Rattle.described.specs.Taken.{takenOf, HasRoomFor}
 use Rattle.arrays.specs.declared.write.Written.{Written}
 use Rattle.arrays.specs.Told.{writtenOf}
 use Rattle.arrays.proofs.Counted.{small-sum}

@@ -1,4 +1,3 @@
-pub mod Through
 pub mod Records
 pub mod Counted
 pub mod Tested

@@ -16,14 +16,14 @@ use Rattle.gathers.specs.Stored.{Output, lentLengths}
 use Rattle.gathers.specs.Gather.{spaceLines}
 use Rattle.batches.specs.Batch.{Batch, batchLines, arraysRefusals}
 use Rattle.stages.specs.Space.{lengthsRefusal}
-use Rattle.described.specs.declared.column.Needs.{Needs}
-use Rattle.arrays.specs.declared.column.First.{First}
+use Rattle.described.specs.declared.column.Through.{Through}
 use Rattle.arrays.specs.declared.check.Tested.{Tested}
-use Rattle.arrays.specs.Told.{FirstToldOf, FirstPassed, AllToldOf, stoppedTestAt, TestedOf}
+use Rattle.arrays.specs.Told.{FirstPassed, AllToldOf, stoppedTestAt, TestedOf}
 use Rattle.stages.proofs.Spaces.{lengthsRefusal-lines}
 use Rattle.batches.proofs.Refused.{stops-batch, stops-column, stops-columns, ends-columns}
 use Rattle.batches.proofs.Passed.{some-columns}
-use Rattle.arrays.proofs.Through.{lets-pass, refuses, not-fit}
+use Rattle.described.specs.Told.{ToldOf}
+use Rattle.described.proofs.Columns.{lets-pass, refuses, not-fit}
 
 module _ (b : Batch) (x : IndexColumn) (o : Output) where
   -- what the tests answer
@@ -36,7 +36,7 @@ module _ (b : Batch) (x : IndexColumn) (o : Output) where
   pub batch-stopped : {s : Checked} {r : Refusal} {t : Tested} → checkedNumbers s ≡ firstOf (batchLines b) → s ≡ Unfit r → t ≡ stoppedTestAt s → Answers t
   batch-stopped e f d = stopped (e ∙ stops-batch b x o (refuses e f)) f d
 
-  module _ {s : Checked} (se : checkedNumbers s ≡ firstOf (batchLines b)) (sf : s ≡ Fit) (m : First) (me : FirstToldOf (b .column 0) x m) where
+  module _ {s : Checked} (se : checkedNumbers s ≡ firstOf (batchLines b)) (sf : s ≡ Fit) (m : Through) (me : ToldOf true (b .column 0) x m) where
     batch : passes (firstOf (batchLines b)) ≡ true
     batch = lets-pass se sf
 
@@ -48,7 +48,7 @@ module _ (b : Batch) (x : IndexColumn) (o : Output) where
       pub first-passed : FirstPassed b x (m .needed)
       first-passed = record { batch = batch; column = lets-pass (me .0) mf; needed = me .1 mf .0 }
 
-      module _ (q : Needs) (qe : AllToldOf b x q) where
+      module _ (q : Through) (qe : AllToldOf b x q) where
         pub rest-stopped : {r : Refusal} {t : Tested} → q .checked ≡ Unfit r → t ≡ stoppedTestAt (q .checked) → Answers t
         rest-stopped f d = stopped (qe .0 ∙ stops-columns b x o batch (refuses (qe .0) f)) f d
 
@@ -59,5 +59,5 @@ module _ (b : Batch) (x : IndexColumn) (o : Output) where
               ∙ lengthsRefusal-lines (q .needed) (lentLengths o)
               ∙ ap (λ (n : Lengths). firstOf (spaceLines n (lentLengths o))) (qe .1 qf)
               ∙ ends-columns b x o batch (lets-pass (qe .0) qf),
-          λ f. me .1 mf .1,
+          λ f. me .1 mf .1 refl,
         )

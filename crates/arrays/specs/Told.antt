@@ -8,43 +8,22 @@ use Rattle.bits.specs.Sequences.{sum, any}
 use Rattle.tables.specs.declared.refusal.Checked.{Checked}
 use Rattle.tables.specs.declared.refusal.Checked.the-variants.{Fit}
 use Rattle.tables.specs.declared.table.Lengths.{Lengths}
-use Rattle.tables.specs.Columns.{Column, IndexColumn}
+use Rattle.tables.specs.Columns.{IndexColumn}
 use Rattle.tables.specs.Bodies.{describedAt}
 use Rattle.tables.specs.Answers.{passes, linesOf, firstOf}
 use Rattle.tables.specs.Stages.{checkedNumbers}
 use Rattle.tables.specs.Rows.{Rows}
-use Rattle.gathers.specs.Taken.{taken}
 use Rattle.gathers.specs.Stored.{dataLength, neededLengths, nullCount, joinedLengths}
 use Rattle.gathers.specs.Gather.{throughLines}
 use Rattle.gathers.specs.Buffers.{someOutside}
 use Rattle.batches.specs.Batch.{Batch, takenFrom, batchLines}
-use Rattle.described.specs.declared.column.Needs.{Needs}
-use Rattle.arrays.specs.declared.column.First.{First}
+use Rattle.described.specs.declared.column.Through.{Through}
 use Rattle.arrays.specs.declared.check.Tested.{Tested}
 use Rattle.arrays.specs.declared.write.Written.{Written}
 
 -- the row counts of the first n records are not all that of the first
 abbrev pub recordsDiffer : ℕ → List ℕ → Bool
 recordsDiffer n s = any n (λ i. not (eqb (describedAt s i .table .rows) (describedAt s 0 .table .rows)))
-
-abbrev pub noLengths : Lengths
-noLengths = record { «data» = 0; offsets = 0; validity = 0 }
-
--- a refusal, unchanged
-abbrev pub stoppedAt : Checked → Needs
-stoppedAt s = record { checked = s; needed = noLengths }
-
-abbrev pub stoppedFirstAt : Checked → First
-stoppedFirstAt s = record { checked = s; needed = noLengths; outside = false }
-
--- a column's first refusal through overflow; and where there is none, what its rows need
-abbrev pub ToldOf : Column → IndexColumn → Needs → Type 0
-ToldOf c x r = (checkedNumbers (r .checked) ≡ firstOf (throughLines c x)) × (r .checked ≡ Fit → r .needed ≡ neededLengths (taken c x))
-
-abbrev pub FirstToldOf : Column → IndexColumn → First → Type 0
-FirstToldOf c x r =
-    (checkedNumbers (r .checked) ≡ firstOf (throughLines c x))
-    × (r .checked ≡ Fit → (r .needed ≡ neededLengths (taken c x)) × (r .outside ≡ someOutside (c .table .rows) x))
 
 -- the first column passes through overflow and needs so much; the batch passed its tests
 pub record FirstPassed (b : Batch) (x : IndexColumn) (n : Lengths) : Type 0 where
@@ -53,7 +32,7 @@ pub record FirstPassed (b : Batch) (x : IndexColumn) (n : Lengths) : Type 0 wher
   pub needed : n ≡ neededLengths (takenFrom b x 0)
 
 -- the columns' first refusal; and where there is none, what their rows need together
-abbrev pub AllToldOf : Batch → IndexColumn → Needs → Type 0
+abbrev pub AllToldOf : Batch → IndexColumn → Through → Type 0
 AllToldOf b x r =
     (checkedNumbers (r .checked) ≡ firstOf (linesOf (b .count) (λ i. throughLines (b .column i) x)))
     × (r .checked ≡ Fit → r .needed ≡ joinedLengths (b .count) (takenFrom b x))

@@ -1,9 +1,8 @@
 // The tests of a batch, in their order, before any output byte is written: those of the batch, the columns one by one through overflow, and space over
 // the joined lengths.
 use crate::batch::check_batch;
-use crate::column::check_first;
-use crate::column::check_next;
-use described::column::Needs;
+use described::column::Through;
+use described::in_body::check_described;
 use descriptions::record::describe;
 use stages::space::check_space;
 use tables::refusal::Checked;
@@ -42,7 +41,7 @@ fn check_rest(
     index_data: &[u8],
     index_validity: &[u8],
     first: Lengths,
-) -> Needs
+) -> Through
     requires { ⌜ FirstPassed (batchAt columns descriptions body) (indexColumnAt indices «index_data» «index_validity») first ⌝ }
     ensures { λ r. ⌜ AllToldOf (batchAt columns (descriptions .entry) (body .entry)) (indexColumnAt indices («index_data» .entry) («index_validity» .entry)) r ⌝ }
 {
@@ -52,7 +51,7 @@ fn check_rest(
     let mut i: usize = 1;
     while i < columns {
         let d = describe(descriptions, i);
-        let next = check_next(d, body, indices, index_data, index_validity);
+        let next = check_described(d, body, indices, index_data, index_validity, false);
         let checked = next.checked;
         let needed = next.needed;
         let Checked::Fit = checked else {
@@ -68,9 +67,10 @@ fn check_rest(
         offsets,
         validity,
     };
-    Needs {
+    Through {
         checked: Checked::Fit,
         needed,
+        outside: false,
     }
 }
 
@@ -97,7 +97,7 @@ pub fn check(
         return stopped_test(batched);
     };
     let d = describe(descriptions, 0);
-    let first = check_first(d, body, indices, index_data, index_validity);
+    let first = check_described(d, body, indices, index_data, index_validity, true);
     let formed = first.checked;
     let needed = first.needed;
     let Checked::Fit = formed else {

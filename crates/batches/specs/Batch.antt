@@ -17,7 +17,7 @@ use Rattle.gathers.specs.Stored.{Output, lentLengths, dataLength, nullCount, jo
 use Rattle.gathers.specs.Gather.{spaceLines, throughLines, Outcome}
 use Rattle.gathers.specs.Blank.{blank}
 
--- columns 0 to count - 1; `short` says that there are fewer descriptions than columns
+-- columns 0 to count - 1; `short` says that the lent descriptions end before the last record does
 pub record Batch : Type 0 where
   pub count : ℕ
   pub short : Bool
@@ -60,12 +60,13 @@ batchLines b =
     ∷ line (rowsDiffer b) (refuse 8 0 0)
     ∷ []
 
--- the columns through overflow, one by one; then space, over the joined lengths
+-- of the columns, one by one, each through overflow
+abbrev pub columnsLines : Batch → IndexColumn → List Line
+columnsLines b x = linesOf (b .count) (λ i. throughLines (b .column i) x)
+
+-- in their order; space is last, over the joined lengths
 unfoldable pub arraysRefusals : Batch → IndexColumn → Output → List Line
-arraysRefusals b x o =
-    batchLines b
-    ++ linesOf (b .count) (λ i. throughLines (b .column i) x)
-    ++ spaceLines (joinedLengths (b .count) (takenFrom b x)) (lentLengths o)
+arraysRefusals b x o = batchLines b ++ columnsLines b x ++ spaceLines (joinedLengths (b .count) (takenFrom b x)) (lentLengths o)
 
 -- ---- the outcome
 

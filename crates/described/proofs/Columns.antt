@@ -1,4 +1,4 @@
--- What the stages of one column tell (specs/Needs.antt), by what the stages below answer. Assumes nothing.
+-- What the tests and the writing of one column tell (specs/Told.antt, specs/Taken.antt), by what the stages below answer. Assumes nothing.
 use mathlib.Core.Path.{_≡_, refl, sym, ap, _∙_, subst}
 use mathlib.Core.Bool.{Bool, true, false, false≢true}
 use mathlib.Core.List.{List}
@@ -8,6 +8,7 @@ use lib.ListN.{length}
 use Rattle.bits.specs.Bytes.{overwrite}
 use Rattle.bits.specs.Numbers.{numberAt}
 use Rattle.tables.specs.declared.refusal.Answer.{Answer}
+use Rattle.tables.specs.declared.refusal.Refusal.{Refusal}
 use Rattle.tables.specs.declared.refusal.Checked.{Checked}
 use Rattle.tables.specs.declared.refusal.Checked.the-variants.{Fit, Unfit}
 use Rattle.tables.specs.declared.table.Layout.{Layout}
@@ -16,20 +17,22 @@ use Rattle.tables.specs.declared.table.Lengths.{Lengths}
 use Rattle.tables.specs.Kinds.{kindOf, layoutOf}
 use Rattle.tables.specs.Columns.{Column, IndexColumn, layoutAt}
 use Rattle.tables.specs.Answers.{passes}
-use Rattle.tables.specs.Stages.{checkedNumbers}
+use Rattle.tables.specs.Stages.{checkedNumbers, _orElse_, offsetsRefusal}
 use Rattle.tables.specs.Rows.{Rows, rowsOf}
 use Rattle.gathers.specs.Taken.{takeRows}
 use Rattle.gathers.specs.Stored.{Output, validityBytes, writtenOffsets, dataBytes, offsetLength, dataLength, neededLengths, nullCount, storeOffsets, store}
-use Rattle.gathers.specs.Stages.{overflowRefusal, measured}
+use Rattle.gathers.specs.Stages.{rangeRefusal, overflowRefusal, measured}
+use Rattle.gathers.specs.Buffers.{someOutside}
 use Rattle.gathers.specs.Ready.{Ready, NoOverflow, HasRoom}
 use Rattle.variable.specs.declared.total.Measured.{Measured}
 use Rattle.variable.specs.Measured.{measuredBy, measuredNumbers}
 use Rattle.stages.specs.Space.{lengthsFor}
-use Rattle.described.specs.declared.column.Needs.{Needs}
-use Rattle.described.specs.Needs.{NeedsOf, takenOf, HasRoomFor, dataIn, OffsetsIn}
+use Rattle.described.specs.declared.column.Through.{Through}
+use Rattle.described.specs.Told.{stoppedAt, SizesPassed, RestToldOf}
+use Rattle.described.specs.Taken.{takenOf, HasRoomFor, dataIn, OffsetsIn}
 use Rattle.bits.proofs.Bytes.{length-overwrite}
 use Rattle.tables.proofs.Bounds.{offset-number-width}
-use Rattle.tables.proofs.Stages.{refusing}
+use Rattle.tables.proofs.Stages.{refusing, sized-well-formed}
 use Rattle.gathers.proofs.Stages.{measured-refused, measured-total, stored-by}
 use Rattle.gathers.proofs.Lengths.{blocks-length, bits-length}
 use Rattle.gathers.proofs.Regular.{length-written}
@@ -37,6 +40,16 @@ use Rattle.gathers.proofs.VariableRows.{ready-facts, offset-length-by-buffer}
 use Rattle.gathers.proofs.Joining.{overflow-accepts, ready-through, data-small, last-offset}
 use Rattle.stages.proofs.Routines.{ready-count, ready-bytes}
 use Rattle.stages.proofs.Spaces.{rows-layout, needed-told}
+
+-- a refusal does not pass, and `Fit` does
+pub refuses : {s : Checked} {r : Refusal} {a : Answer} → checkedNumbers s ≡ a → s ≡ Unfit r → passes a ≡ false
+refuses {r = r} e f = rw (sym e, f) (refusing r)
+
+pub lets-pass : {s : Checked} {a : Answer} → checkedNumbers s ≡ a → s ≡ Fit → passes a ≡ true
+lets-pass e f = ap passes (sym e ∙ ap checkedNumbers f)
+
+pub not-fit : {s : Checked} {r : Refusal} {A : Type 0} → s ≡ Unfit r → s ≡ Fit → A
+not-fit {r = r} f g = absurd (false≢true (sym (refusing r) ∙ ap passes (sym (ap checkedNumbers f) ∙ ap checkedNumbers g)))
 
 module _ (c : Column) (x : IndexColumn) where
   abbrev v : Rows
@@ -46,19 +59,49 @@ module _ (c : Column) (x : IndexColumn) where
   abbrev found : ℕ → Lengths
   found total = lengthsFor (layoutOf (kindOf (c .table .kind)) (c .table .width) (c .table .size)) (c .table .«offset_width») (x .indices .count) total
 
-  -- ---- what the outputs need
+  -- ---- the tests that are left after refusals 1 to 3
 
-  pub needs-measured : (m : Measured) → measuredNumbers m ≡ measured v → {n : Lengths} → n ≡ found (m .total) → NeedsOf v (record { checked = m .checked; needed = n })
-  needs-measured m e {n} h = go (m .checked) refl
-    where
-      go : (s : Checked) → m .checked ≡ s → (checkedNumbers (m .checked) ≡ overflowRefusal v) × (m .checked ≡ Fit → n ≡ neededLengths v)
-      go Fit f =
-          let t = measured-total v (sym (ap (λ (s : Checked). measuredBy s (m .total)) f) ∙ e) in
-          (ap checkedNumbers f ∙ sym (overflow-accepts v (t .0)), λ g. h ∙ needed-told c x (t .1))
-      go (Unfit r) f =
-          let d = sym (ap (λ (s : Checked). measuredBy s (m .total)) f) ∙ e in
-          let t = measured-refused v (rw (sym d) (refusing r)) in
-          (ap checkedNumbers f ∙ d ∙ t .1, λ g. absurd (false≢true (sym (refusing r) ∙ ap passes (sym (ap checkedNumbers f) ∙ ap checkedNumbers g))))
+  abbrev rest : Answer
+  rest = offsetsRefusal c orElse rangeRefusal (c .table .rows) x orElse overflowRefusal v
+
+  module _ (first : Bool) where
+    stop : {s : Checked} {r : Refusal} {t : Through} → checkedNumbers s ≡ rest → s ≡ Unfit r → t ≡ stoppedAt s → RestToldOf first c x t
+    stop e f d = subst (RestToldOf first c x) (sym d) (e, λ g. not-fit f g)
+
+    pub offsets-stopped : {s : Checked} {r : Refusal} {t : Through} → checkedNumbers s ≡ offsetsRefusal c → s ≡ Unfit r → t ≡ stoppedAt s → RestToldOf first c x t
+    offsets-stopped e f d = let n = refuses e f in stop (e ∙ rw (n, n)) f d
+
+    module _ (p : SizesPassed first c x) {s : Checked} (se : checkedNumbers s ≡ offsetsRefusal c) (sf : s ≡ Fit) where
+      good : passes (offsetsRefusal c) ≡ true
+      good = lets-pass se sf
+
+      pub range-stopped : {t : Checked} {r : Refusal} {q : Through} → checkedNumbers t ≡ rangeRefusal (c .table .rows) x → t ≡ Unfit r → q ≡ stoppedAt t
+          → RestToldOf first c x q
+      range-stopped e f d = let n = refuses e f in stop (e ∙ rw (good, n)) f d
+
+      module _ {t : Checked} (te : checkedNumbers t ≡ rangeRefusal (c .table .rows) x) (tf : t ≡ Fit) where
+        range : passes (rangeRefusal (c .table .rows) x) ≡ true
+        range = lets-pass te tf
+
+        pub rest-ready : Ready c x
+        rest-ready = record { column = sized-well-formed c (p .sized) good; indices = record { passed = p .indices; range = range } }
+
+        by-overflow : overflowRefusal v ≡ rest
+        by-overflow = rw (good, range)
+
+        pub rest-told : (m : Measured) → measuredNumbers m ≡ measured v → {n : Lengths} → n ≡ found (m .total) → {outside : Bool}
+            → (first ≡ true → outside ≡ someOutside (c .table .rows) x) → RestToldOf first c x (record { checked = m .checked; needed = n; outside = outside })
+        rest-told m e {n} h {outside} o = go (m .checked) refl
+          where
+            go : (s : Checked) → m .checked ≡ s
+                → (checkedNumbers (m .checked) ≡ rest) × (m .checked ≡ Fit → (n ≡ neededLengths v) × (first ≡ true → outside ≡ someOutside (c .table .rows) x))
+            go Fit f =
+                let t = measured-total v (sym (ap (λ (s : Checked). measuredBy s (m .total)) f) ∙ e) in
+                (ap checkedNumbers f ∙ sym (overflow-accepts v (t .0)) ∙ by-overflow, λ g. (h ∙ needed-told c x (t .1), o))
+            go (Unfit r) f =
+                let d = sym (ap (λ (s : Checked). measuredBy s (m .total)) f) ∙ e in
+                let t = measured-refused v (rw (sym d) (refusing r)) in
+                (ap checkedNumbers f ∙ d ∙ t .1 ∙ by-overflow, λ g. not-fit f g)
 
   -- ---- the writing
 

@@ -1,9 +1,12 @@
-// One column of several: what its outputs need, with refusal 6, and the writing of its rows, which tells how far the outputs are used. The next
-// column's rows go on from there.
+// One column: its tests through overflow, after those of its sizes, and the writing of its rows, which tells how far the outputs are used. The rows of a next
+// column go on from there.
 use bits::number::number_at;
 use kinds::kind::kind_of;
 use kinds::kind::layout_of;
 use nulls::null::take_nulls;
+use offsets::check::check_offsets;
+use range::bounds::check_bounds;
+use range::outside::some_outside;
 use stages::measure::measure;
 use stages::space::needed_lengths;
 use stages::values::take_values;
@@ -13,17 +16,24 @@ use tables::table::Layout;
 use tables::table::Lengths;
 use tables::table::Table;
 ghost use mathlib.Core.Path.{_≡_};
+ghost use mathlib.Core.Bool.{true, false};
 ghost use Rattle.tables.specs.Columns.{columnAt, indexColumnAt};
+ghost use Rattle.tables.specs.Answers.{passes};
+ghost use Rattle.tables.specs.Refusals.{indexRefusal};
 ghost use Rattle.gathers.specs.Taken.{taken};
 ghost use Rattle.gathers.specs.Stored.{outputAt, store};
+ghost use Rattle.gathers.specs.Stages.{rangeRefusal};
 ghost use Rattle.gathers.specs.Ready.{Ready, NoOverflow};
 ghost use Rattle.gathers.specs.Buffers.{someOutside};
-ghost use Rattle.described.specs.Needs.{NeedsOf, takenOf, dataIn, OffsetsIn, HasRoomFor};
+ghost use Rattle.described.specs.Told.{stoppedAt, RangedOf, SizesPassed, RestToldOf};
+ghost use Rattle.described.specs.Taken.{takenOf, dataIn, OffsetsIn, HasRoomFor};
 
-// That the rows can be gathered and how many bytes of each output they need; or why they cannot.
-pub struct Needs {
+// What the tests of a column tell. Where there is no refusal: how many bytes of each output the rows need, and of a first column whether some number of the
+// indices, then one under a null index, is that of no row.
+pub struct Through {
     pub checked: Checked,
     pub needed: Lengths,
+    pub outside: bool,
 }
 
 // How many bytes of each output the rows took, and how many rows are null.
@@ -32,7 +42,54 @@ pub struct Taken {
     pub nulls: u64,
 }
 
-pub fn measure_column(
+// What the range test tells.
+pub struct Ranged {
+    pub checked: Checked,
+    pub outside: bool,
+}
+
+// A stage's refusal, passed up unchanged.
+pub fn stopped(checked: Checked) -> Through
+    ensures { λ r. ⌜ r ≡ stoppedAt checked ⌝ }
+{
+    let needed = Lengths {
+        data: 0,
+        offsets: 0,
+        validity: 0,
+    };
+    Through {
+        checked,
+        needed,
+        outside: false,
+    }
+}
+
+// Refusal 5 of a first column. One after it has as many rows, and its range is known to pass.
+fn check_range(
+    first: bool,
+    rows: u64,
+    indices: Indices,
+    index_data: &[u8],
+    index_validity: &[u8],
+) -> Ranged
+    requires { ⌜ passes (indexRefusal (indexColumnAt indices «index_data» «index_validity»)) ≡ true ⌝ }
+    requires { ⌜ (first ≡ false → passes (rangeRefusal rows (indexColumnAt indices «index_data» «index_validity»)) ≡ true) ⌝ }
+    ensures { λ r. ⌜ RangedOf first rows (indexColumnAt indices («index_data» .entry) («index_validity» .entry)) r ⌝ }
+{
+    if !first {
+        return Ranged {
+            checked: Checked::Fit,
+            outside: false,
+        };
+    }
+    let outside = some_outside(rows, indices.width, indices.count, index_data);
+    let checked = check_bounds(rows, indices, index_data, index_validity, outside);
+    Ranged { checked, outside }
+}
+
+// The tests that are left after refusals 1 to 3, through overflow. They stand in a function of their own, as the writing does, so that a gather of one column
+// and one of several share two calls and not one for each stage.
+pub fn check_column(
     table: Table,
     data: &[u8],
     offsets: &[u8],
@@ -40,12 +97,22 @@ pub fn measure_column(
     indices: Indices,
     index_data: &[u8],
     index_validity: &[u8],
-) -> Needs
-    requires { ⌜ Ready (columnAt table «data» offsets validity) (indexColumnAt indices «index_data» «index_validity») ⌝ }
-    ensures { λ r. ⌜ NeedsOf (taken
+    first: bool,
+) -> Through
+    requires { ⌜ SizesPassed first (columnAt table «data» offsets validity) (indexColumnAt indices «index_data» «index_validity») ⌝ }
+    ensures { λ r. ⌜ RestToldOf first
         (columnAt table («data» .entry) (offsets .entry) (validity .entry))
-        (indexColumnAt indices («index_data» .entry) («index_validity» .entry))) r ⌝ }
+        (indexColumnAt indices («index_data» .entry) («index_validity» .entry)) r ⌝ }
 {
+    let formed = check_offsets(table, data, offsets);
+    let Checked::Fit = formed else {
+        return stopped(formed);
+    };
+    let ranged = check_range(first, table.rows, indices, index_data, index_validity);
+    let inside = ranged.checked;
+    let Checked::Fit = inside else {
+        return stopped(inside);
+    };
     let measured = measure(
         table,
         data,
@@ -57,7 +124,11 @@ pub fn measure_column(
     );
     let checked = measured.checked;
     let needed = needed_lengths(table, indices.count, measured.total);
-    Needs { checked, needed }
+    Through {
+        checked,
+        needed,
+        outside: ranged.outside,
+    }
 }
 
 // The data bytes of so many rows that are written; of variable width the last offset tells them, and no length is added up again.

@@ -1,14 +1,14 @@
 // The stages over a column that a record describes. Its buffers are parts of the body; they are taken out after the tests of their extents let pass.
-use crate::column::Needs;
 use crate::column::Taken;
-use crate::column::measure_column;
+use crate::column::Through;
+use crate::column::check_column;
+use crate::column::stopped;
 use crate::column::take_column;
 use descriptions::body::buffer;
 use descriptions::body::offsets_buffer;
 use descriptions::body::some_cut;
 use kinds::kind::kind_of;
 use kinds::kind::uses_of;
-use offsets::check::check_offsets;
 use sizes::check::check_sizes;
 use tables::refusal::Checked;
 use tables::table::Description;
@@ -17,14 +17,15 @@ use tables::table::Indices;
 use tables::table::Lengths;
 use tables::table::Uses;
 ghost use mathlib.Core.Path.{_≡_};
+ghost use mathlib.Core.Bool.{false};
 ghost use Rattle.tables.specs.Columns.{indexColumnAt};
 ghost use Rattle.tables.specs.Bodies.{columnIn};
-ghost use Rattle.tables.specs.Stages.{checkedNumbers, formRefusal};
 ghost use Rattle.gathers.specs.Taken.{taken};
 ghost use Rattle.gathers.specs.Stored.{outputAt, store};
-ghost use Rattle.gathers.specs.Ready.{Ready, NoOverflow};
+ghost use Rattle.gathers.specs.Ready.{InRange, Ready, NoOverflow};
 ghost use Rattle.gathers.specs.Buffers.{someOutside};
-ghost use Rattle.described.specs.Needs.{NeedsOf, takenOf, HasRoomFor, statedLengths};
+ghost use Rattle.described.specs.Told.{statedLengths, testedIndices, testedLengths, ToldOf};
+ghost use Rattle.described.specs.Taken.{takenOf, HasRoomFor};
 
 // The lengths of the buffers that are used, as stated.
 fn stated_lengths(uses: Uses, d: Description) -> Lengths
@@ -46,49 +47,58 @@ fn stated_lengths(uses: Uses, d: Description) -> Lengths
     }
 }
 
-// Refusals 1 to 4, of the column with the index column.
+// The index column that a column is tested with: its own if it is the first, and none after that.
+fn tested_indices(first: bool, indices: Indices) -> Indices
+    ensures { λ r. ⌜ r ≡ testedIndices first indices ⌝ }
+{
+    if first {
+        return indices;
+    }
+    Indices {
+        width: 1,
+        count: 0,
+        validity_bit: 0,
+    }
+}
+
+fn tested_lengths(first: bool, data: u64, validity: u64) -> IndexLengths
+    ensures { λ r. ⌜ r ≡ testedLengths first «data» validity ⌝ }
+{
+    if first {
+        return IndexLengths { data, validity };
+    }
+    IndexLengths {
+        data: 0,
+        validity: 0,
+    }
+}
+
+// Refusals 1 to 6. The first column is tested with the index column, and the range with it; the others have as many rows, so that neither is tested again.
 pub fn check_described(
     d: Description,
     body: &[u8],
     indices: Indices,
     index_data: &[u8],
     index_validity: &[u8],
-) -> Checked
-    ensures { λ r. ⌜ checkedNumbers r ≡ formRefusal (columnIn (now (body .entry)) d) (indexColumnAt indices («index_data» .entry) («index_validity» .entry)) ⌝ }
+    first: bool,
+) -> Through
+    requires { ⌜ (first ≡ false → InRange (d .table .rows) (indexColumnAt indices «index_data» «index_validity»)) ⌝ }
+    ensures { λ r. ⌜ ToldOf first (columnIn (now (body .entry)) d) (indexColumnAt indices («index_data» .entry) («index_validity» .entry)) r ⌝ }
 {
     let table = d.table;
     let uses = uses_of(kind_of(table.kind));
     let cut = some_cut(uses, body.len() as u64, d);
     let lengths = stated_lengths(uses, d);
-    let index_lengths = IndexLengths {
-        data: index_data.len() as u64,
-        validity: index_validity.len() as u64,
-    };
-    let sizes = check_sizes(table, cut, lengths, indices, index_lengths);
+    let tested = tested_indices(first, indices);
+    let index_lengths = tested_lengths(first, index_data.len() as u64, index_validity.len() as u64);
+    let sizes = check_sizes(table, cut, lengths, tested, index_lengths);
     let Checked::Fit = sizes else {
-        return sizes;
+        return stopped(sizes);
     };
-    let data = buffer(body, d.data);
-    let offsets = offsets_buffer(uses, body, d.offsets);
-    check_offsets(table, data, offsets)
-}
-
-pub fn measure_described(
-    d: Description,
-    body: &[u8],
-    indices: Indices,
-    index_data: &[u8],
-    index_validity: &[u8],
-) -> Needs
-    requires { ⌜ Ready (columnIn (now body) d) (indexColumnAt indices «index_data» «index_validity») ⌝ }
-    ensures { λ r. ⌜ NeedsOf (taken (columnIn (now (body .entry)) d) (indexColumnAt indices («index_data» .entry) («index_validity» .entry))) r ⌝ }
-{
-    let table = d.table;
-    let uses = uses_of(kind_of(table.kind));
     let data = buffer(body, d.data);
     let offsets = offsets_buffer(uses, body, d.offsets);
     let validity = buffer(body, d.validity);
-    measure_column(
+    check_column(
         table,
         data,
         offsets,
@@ -96,6 +106,7 @@ pub fn measure_described(
         indices,
         index_data,
         index_validity,
+        first,
     )
 }
 

@@ -1,48 +1,42 @@
 -- The first refusal and the gather by what the stages answer: the laws that `check` and `take` cite at each return. Assumes nothing.
-use mathlib.Core.Path.{_≡_, sym, ap, _∙_, subst}
-use mathlib.Core.Bool.{Bool, true, false, false≢true}
-use mathlib.Core.List.{List}
-use Prim.Native.Nat.{ℕ, _*_, _≤_}
-use lib.ListN.{length}
-use Rattle.bits.specs.Bytes.{overwrite}
-use Rattle.bits.specs.Numbers.{isNumberWidth}
-use Rattle.tables.specs.declared.refusal.Answer.{Answer}
+use mathlib.Core.Path.{_≡_, refl, sym, ap, _∙_, subst}
+use mathlib.Core.Bool.{Bool, true, false, true≢false}
+use Prim.Native.Nat.{ℕ}
 use Rattle.tables.specs.declared.refusal.Checked.{Checked}
 use Rattle.tables.specs.declared.refusal.Checked.the-variants.{Fit, Unfit}
 use Rattle.tables.specs.declared.refusal.Refusal.{Refusal}
-use Rattle.tables.specs.declared.table.Layout.{Layout}
-use Rattle.tables.specs.Columns.{Column, IndexColumn, layoutAt}
+use Rattle.tables.specs.declared.table.Lengths.{Lengths}
+use Rattle.tables.specs.Columns.{Column, IndexColumn}
 use Rattle.tables.specs.Answers.{passes, refusalNumbers, firstOf}
-use Rattle.tables.specs.Stages.{checkedNumbers, formRefusal}
-use Rattle.tables.specs.Refusals.{indexRefusal}
-use Rattle.tables.specs.Rows.{Rows, rowsOf}
-use Rattle.gathers.specs.Taken.{takeRows}
-use Rattle.gathers.specs.Stored.{Output, validityBytes, dataBytes, validityLength, offsetLength, dataLength, nullCount, storeOffsets}
-use Rattle.gathers.specs.Gather.{refusals, Outcome, gather}
-use Rattle.gathers.specs.Stages.{rangeRefusal, overflowRefusal, measured, spaceRefusal}
-use Rattle.gathers.specs.Ready.{Ready}
+use Rattle.tables.specs.Stages.{checkedNumbers, sizesRefusal}
+use Rattle.tables.specs.Rows.{Rows}
+use Rattle.gathers.specs.Taken.{taken}
+use Rattle.gathers.specs.Stored.{Output, lentLengths, store}
+use Rattle.gathers.specs.Gather.{spaceLines, throughLines, refusals, Outcome, gather}
+use Rattle.gathers.specs.Ready.{InRange, Ready, NoOverflow}
 use Rattle.gathers.specs.Buffers.{someOutside}
-use Rattle.variable.specs.declared.total.Measured.{Measured}
-use Rattle.variable.specs.Measured.{measuredBy, measuredNumbers}
+use Rattle.stages.specs.Space.{lengthsRefusal}
+use Rattle.described.specs.declared.column.Through.{Through}
+use Rattle.described.specs.declared.column.Taken.{Taken}
+use Rattle.described.specs.Told.{SizesPassed, RestToldOf, ToldOf}
+use Rattle.described.specs.Taken.{takenOf, HasRoomFor}
 use Rattle.entries.specs.declared.check.Tested.{Tested}
 use Rattle.entries.specs.Entry.{Gathers}
 use Rattle.entries.specs.Tested.{stoppedAt, Told}
-use Rattle.stages.proofs.Spaces.{rows-layout}
-use Rattle.tables.proofs.Facts.{index-formed}
-use Rattle.tables.proofs.Stages.{refusing, form-passed}
-use Rattle.gathers.proofs.Stages.{Passed as AllPassed, all-passed, stops-form, stops-range, stops-overflow, ends-space, gather-refused, gather-stored, enough, measured-refused, measured-total, stored-by, gathered-by}
+use Rattle.stages.proofs.Spaces.{lengthsRefusal-lines}
+use Rattle.described.proofs.Columns.{refuses, lets-pass, not-fit}
+use Rattle.described.proofs.Placed.{sizes-passed-by, all-told, sizes-stopped}
+use Rattle.tables.proofs.Stages.{refusing, stage-refused, form-passed}
+use Rattle.gathers.proofs.Stages.{Passed as AllPassed, all-passed, by-space, stops-form, gather-refused, gather-stored, enough, spaceRefusal-lines, gathered-by}
 use Rattle.gathers.proofs.Blanked.{gather-blank}
-
--- the numbers of a refusal
-refuses : {s : Checked} {r : Refusal} {a : Answer} → checkedNumbers s ≡ a → s ≡ Unfit r → passes a ≡ false
-refuses {r = r} e f = rw (sym e, f) (refusing r)
-
-lets-pass : {s : Checked} {a : Answer} → checkedNumbers s ≡ a → s ≡ Fit → passes a ≡ true
-lets-pass e f = ap passes (sym e ∙ ap checkedNumbers f)
 
 module _ (c : Column) (x : IndexColumn) where
   abbrev v : Rows
-  v = takeRows (rowsOf c) x
+  v = taken c x
+
+  -- one column is the first
+  alone : true ≡ false → InRange (c .table .rows) x
+  alone e = absurd (true≢false e)
 
   -- ---- the tests, stage by stage
 
@@ -51,53 +45,33 @@ module _ (c : Column) (x : IndexColumn) where
   Answers o t = (checkedNumbers (t .checked) ≡ firstOf (refusals c x o)) × Told c x t
 
   stopped : (o : Output) {s : Checked} {r : Refusal} {t : Tested} → s ≡ Unfit r → t ≡ stoppedAt s → checkedNumbers s ≡ firstOf (refusals c x o) → Answers o t
-  stopped o {s} {r} f d e =
-      subst (Answers o) (sym d) (e, λ g. absurd (false≢true (sym (refusing r) ∙ ap passes (sym (ap checkedNumbers f) ∙ ap checkedNumbers g))))
+  stopped o f d e = subst (Answers o) (sym d) (e, λ g. not-fit f g)
 
-  pub form-refused : (o : Output) {s : Checked} {r : Refusal} {p : Tested} → checkedNumbers s ≡ formRefusal c x → s ≡ Unfit r → p ≡ stoppedAt s → Answers o p
-  form-refused o e f d = stopped o f d (e ∙ stops-form c x o (refuses e f))
+  pub sizes-refused : (o : Output) {s : Checked} {r : Refusal} {t : Tested} → checkedNumbers s ≡ sizesRefusal c x → s ≡ Unfit r → t ≡ stoppedAt s → Answers o t
+  sizes-refused o e f d = let g = stage-refused c x e f in stopped o f d (g ∙ stops-form c x o (refuses g f))
 
-  module _ {s : Checked} (se : checkedNumbers s ≡ formRefusal c x) (sf : s ≡ Fit) where
-    form : passes (formRefusal c x) ≡ true
-    form = lets-pass se sf
+  module _ {s : Checked} (se : checkedNumbers s ≡ sizesRefusal c x) (sf : s ≡ Fit) where
+    pub sizes-passed : SizesPassed true c x
+    sizes-passed = sizes-passed-by c x true alone se sf
 
-    pub indices-passed : passes (indexRefusal x) ≡ true
-    indices-passed = form-passed c x form .1
+    module _ (m : Through) (me : RestToldOf true c x m) where
+      through : ToldOf true c x m
+      through = all-told c x true alone se sf m me
 
-    -- the numbers of the indices are there
-    pub numbers-there : (isNumberWidth (x .indices .width) ≡ true) × (x .indices .count * x .indices .width ≤ length (x .«data»))
-    numbers-there =
-        let f = index-formed x indices-passed in
-        (f .width, f .dataFit)
+      pub through-refused : (o : Output) {r : Refusal} {t : Tested} → m .checked ≡ Unfit r → t ≡ stoppedAt (m .checked) → Answers o t
+      through-refused o f d = let n = refuses (through .0) f in stopped o f d (through .0 ∙ rw (by-space c x o, n))
 
-    pub range-refused : (o : Output) {t : Checked} {r : Refusal} {p : Tested} → checkedNumbers t ≡ rangeRefusal (c .table .rows) x → t ≡ Unfit r → p ≡ stoppedAt t
-        → Answers o p
-    range-refused o e f d = stopped o f d (e ∙ stops-range c x o form (refuses e f))
-
-    module _ {t : Checked} (te : checkedNumbers t ≡ rangeRefusal (c .table .rows) x) (tf : t ≡ Fit) where
-      range : passes (rangeRefusal (c .table .rows) x) ≡ true
-      range = lets-pass te tf
-
-      pub tested : Ready c x
-      tested = record { column = form-passed c x form .0; indices = record { passed = indices-passed; range = range } }
-
-      module _ (m : Measured) (me : measuredNumbers m ≡ measured v) where
-        pub overflow-refused : (o : Output) {r : Refusal} {p : Tested} → m .checked ≡ Unfit r → p ≡ stoppedAt (m .checked) → Answers o p
-        overflow-refused o {r} f d =
-            let e : refusalNumbers r ≡ measured v = sym (ap (λ (s : Checked). measuredBy s (m .total)) f) ∙ me in
-            let n = measured-refused v (rw (sym e) (refusing r)) in
-            stopped o f d (ap checkedNumbers f ∙ e ∙ n .1 ∙ stops-overflow c x o form range (n .0))
-
-        module _ (mf : m .checked ≡ Fit) where
-          counted : (passes (overflowRefusal v) ≡ true) × (m .total ≡ dataLength (v .layout) v)
-          counted = measured-total v (sym (ap (λ (s : Checked). measuredBy s (m .total)) mf) ∙ me)
-
-          pub needs-total : m .total ≡ dataLength (v .layout) v
-          needs-total = counted .1
-
-          pub all-tested : (o : Output) {w : Checked} {outside : Bool} → checkedNumbers w ≡ spaceRefusal v o → outside ≡ someOutside (c .table .rows) x
-              → Answers o (record { checked = w; total = m .total; outside = outside })
-          all-tested o e d = (e ∙ ends-space c x o form range (counted .0), λ f. (needs-total, d))
+      pub all-tested : m .checked ≡ Fit → (o : Output) {w : Checked} → checkedNumbers w ≡ lengthsRefusal (m .needed) (lentLengths o)
+          → Answers o (record { checked = w; outside = m .outside })
+      all-tested mf o e =
+          let n = lets-pass (through .0) mf in (
+            e
+                ∙ lengthsRefusal-lines (m .needed) (lentLengths o)
+                ∙ ap (λ (k : Lengths). firstOf (spaceLines k (lentLengths o))) (through .1 mf .0)
+                ∙ sym (spaceRefusal-lines v o)
+                ∙ rw (by-space c x o, n),
+            λ f. through .1 mf .1 refl,
+          )
 
   -- ---- the gather, by what the tests answer
 
@@ -122,31 +96,16 @@ module _ (c : Column) (x : IndexColumn) where
           record { column = form .0; indices = record { passed = form .1; range = stages .range } }
 
       pub outside-told : t .outside ≡ someOutside (c .table .rows) x
-      outside-told = e .1 f .1
+      outside-told = e .1 f
 
-      pub overflow-passed : passes (overflowRefusal v) ≡ true
+      pub overflow-passed : NoOverflow c x
       overflow-passed = stages .overflow
 
-      room : (validityLength v ≤ length (o .validity)) × (offsetLength (v .layout) v ≤ length (o .offsets)) × (dataLength (v .layout) v ≤ length (o .«data»))
-      room = enough v o (stages .space)
+      pub room : HasRoomFor v o
+      room = let r = enough v o (stages .space) in record { validity = r .0; offsets = r .1; «data» = r .2 }
 
-      pub validity-room : validityLength v ≤ length (o .validity)
-      validity-room = room .0
-
-      pub data-room : (offsetLength (layoutAt c) v ≤ length (o .offsets)) × (dataLength (layoutAt c) v ≤ length (o .«data»))
-      data-room =
-          let l : rowsOf c .layout ≡ layoutAt c = rows-layout c in
-          (subst (λ (k : Layout). offsetLength k v ≤ length (o .offsets)) l (room .1), subst (λ (k : Layout). dataLength k v ≤ length (o .«data»)) l (room .2))
-
-      pub all-stored : {nulls : ℕ} {a b d : List ℕ} → nulls ≡ nullCount v → a ≡ overwrite (validityBytes v) (o .validity)
-          → b ≡ storeOffsets (layoutAt c) v (o .offsets) → d ≡ overwrite (dataBytes (layoutAt c) v) (o .«data»)
-          → record {
-            answer = record { number = 0; place = 0; total = t .total; nulls = nulls };
-            output = record { validity = a; offsets = b; «data» = d };
-          }
-          ≡ gather c x o
-      all-stored n ha hb hd =
-          let l : layoutAt c ≡ rowsOf c .layout = sym (rows-layout c) in
-          let kb = hb ∙ ap (λ (k : Layout). storeOffsets k v (o .offsets)) l in
-          let kd = hd ∙ ap (λ (k : Layout). overwrite (dataBytes k v) (o .«data»)) l in
-          rw (gathered-by v (e .1 f .0) n, stored-by v o ha kb kd) (gather-stored c x o passed)
+      pub all-stored : (w : Taken) → w ≡ takenOf v → {p : Output} → p ≡ store v o
+          → record { answer = record { number = 0; place = 0; total = w .needed .«data»; nulls = w .nulls }; output = p } ≡ gather c x o
+      all-stored w d h =
+          let a = gathered-by v (ap (λ (w : Taken). w .needed .«data») d) (ap (λ (w : Taken). w .nulls) d) in
+          rw (a, h) (gather-stored c x o passed)

@@ -1,12 +1,10 @@
 // The tests of a gather: refusals 1 to 7, in the paper's order, before any output byte is written. They stand in a function of their own, so that
 // the compiler takes the writing after them for what a call is there for, and not for something that it seldom comes to.
-use checks::columns::check_columns;
-use range::bounds::check_bounds;
-use range::outside::some_outside;
-use stages::measure::measure;
+use described::column::check_column;
+use sizes::check::check_sizes;
 use stages::space::check_space;
-use stages::space::needed_lengths;
 use tables::refusal::Checked;
+use tables::table::IndexLengths;
 use tables::table::Indices;
 use tables::table::Lengths;
 use tables::table::Table;
@@ -18,11 +16,9 @@ ghost use Rattle.gathers.specs.Stored.{outputAt};
 ghost use Rattle.gathers.specs.Gather.{refusals};
 ghost use Rattle.entries.specs.Tested.{stoppedAt, Told};
 
-// The first refusal. Where there is none: the rows need `total` bytes of data, and `outside` says whether some number of the indices, then one
-// under a null index, is that of no row.
+// The first refusal. Where there is none, `outside` says whether some number of the indices, then one under a null index, is that of no row.
 pub struct Tested {
     pub checked: Checked,
-    pub total: u64,
     pub outside: bool,
 }
 
@@ -32,7 +28,6 @@ fn stopped(checked: Checked) -> Tested
 {
     Tested {
         checked,
-        total: 0,
         outside: false,
     }
 }
@@ -58,7 +53,20 @@ pub fn check(
         (columnAt table («data» .entry) (offsets .entry) (validity .entry))
         (indexColumnAt indices («index_data» .entry) («index_validity» .entry)) r ⌝ }
 {
-    let formed = check_columns(
+    let lengths = Lengths {
+        data: data.len() as u64,
+        offsets: offsets.len() as u64,
+        validity: validity.len() as u64,
+    };
+    let index_lengths = IndexLengths {
+        data: index_data.len() as u64,
+        validity: index_validity.len() as u64,
+    };
+    let sizes = check_sizes(table, false, lengths, indices, index_lengths);
+    let Checked::Fit = sizes else {
+        return stopped(sizes);
+    };
+    let through = check_column(
         table,
         data,
         offsets,
@@ -66,39 +74,21 @@ pub fn check(
         indices,
         index_data,
         index_validity,
+        true,
     );
-    let Checked::Fit = formed else {
-        return stopped(formed);
-    };
-    let outside = some_outside(table.rows, indices.width, indices.count, index_data);
-    let ranged = check_bounds(table.rows, indices, index_data, index_validity, outside);
-    let Checked::Fit = ranged else {
-        return stopped(ranged);
-    };
-    let measured = measure(
-        table,
-        data,
-        offsets,
-        validity,
-        indices,
-        index_data,
-        index_validity,
-    );
-    let counted = measured.checked;
+    let counted = through.checked;
+    let needed = through.needed;
     let Checked::Fit = counted else {
         return stopped(counted);
     };
-    let total = measured.total;
     let lent = Lengths {
         validity: out_validity.len() as u64,
         offsets: out_offsets.len() as u64,
         data: out_data.len() as u64,
     };
-    let needed = needed_lengths(table, indices.count, total);
     let spaced = check_space(needed, lent);
     Tested {
         checked: spaced,
-        total,
-        outside,
+        outside: through.outside,
     }
 }

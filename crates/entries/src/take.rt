@@ -2,8 +2,7 @@
 // then no output byte changes; or gathered. Any numbers, any buffers and any lent outputs may be handed in.
 use crate::answer::Answered;
 use crate::check::check;
-use nulls::null::take_nulls;
-use stages::values::take_values;
+use described::column::take_column;
 use tables::refusal::Checked;
 use tables::table::Indices;
 use tables::table::Table;
@@ -45,16 +44,7 @@ pub fn take(
     );
     let checked = tested.checked;
     let Checked::Unfit(refusal) = checked else {
-        let nulls = take_nulls(
-            validity,
-            table.validity_bit as usize,
-            table.rows,
-            indices,
-            index_data,
-            index_validity,
-            out_validity,
-        );
-        take_values(
+        let taken = take_column(
             table,
             data,
             offsets,
@@ -67,9 +57,10 @@ pub fn take(
             out_offsets,
             out_data,
         );
+        let needed = taken.needed;
         return Answered::Gathered {
-            total: tested.total,
-            nulls,
+            total: needed.data,
+            nulls: taken.nulls,
         };
     };
     Answered::Refused(refusal)

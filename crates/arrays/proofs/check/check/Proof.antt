@@ -1,5 +1,6 @@
 -- `arrays::check::check` meets its contract: each return by the stage that led to it. Assumes nothing.
 use mathlib.Core.Path.{subst}
+use mathlib.Core.Bool.{true, true≢false}
 use native.Mathlib.Omega.{arith}
 use borrow.Author.Needs.{needs}
 use Rattle.tables.specs.declared.table.Description.{Description}
@@ -8,8 +9,8 @@ use Rattle.tables.specs.Bodies.{columnIn}
 use Rattle.gathers.specs.Stored.{outputAt}
 use Rattle.batches.specs.Batch.{batchIn}
 use Rattle.batches.proofs.Passed.{some-columns}
-use Rattle.arrays.specs.Told.{FirstToldOf}
-use Rattle.arrays.proofs.Through.{lets-pass}
+use Rattle.described.specs.Told.{ToldOf}
+use Rattle.described.proofs.Columns.{lets-pass}
 use Rattle.arrays.proofs.Counted.{record-there}
 use Rattle.arrays.proofs.Tested.{batch-stopped, first-stopped, first-passed, rest-stopped, all-tested}
 use Rattle.arrays.proofs.check.check.Statement.{statement}
@@ -39,8 +40,8 @@ describe-requires c κs =
     let e = lets-pass (c .before .before .check-batch .ensures (a .body .now)) (c .enum-told .given .1) in
     record-there (a .columns) (a .descriptions .now) (a .body .now) e 0 (some-columns b e)
 
-check-first-requires : tie.Need-check-first-requires
-check-first-requires c κs = search needs
+check-described-requires : tie.Need-check-described-requires
+check-described-requires c κs = λ e. absurd (true≢false e)
 
 enum-told-3 : tie.Need-enum-told-3
 enum-told-3 c = search needs
@@ -55,8 +56,8 @@ returns-2 : tie.Need-returns-2
 returns-2 c =
     let a = c .before .before .before .before .before .before .before .before .before .before .before .before .before .before .before .before .args in
     let x = indexColumnAt (a .indices) (a .index-data) (a .index-validity) in
-    let m = c .before .before .before .before .check-first .result in
-    let t = subst (λ (d : Description). FirstToldOf (columnIn (a .body .now) d) x m) (c .before .before .before .before .before .describe .ensures) (c .before .before .before .before .check-first .ensures) in
+    let m = c .before .before .before .before .check-described .result in
+    let t = subst (λ (d : Description). ToldOf true (columnIn (a .body .now) d) x m) (c .before .before .before .before .before .describe .ensures) (c .before .before .before .before .check-described .ensures) in
     first-stopped (batchIn (a .columns) (a .descriptions .now) (a .body .now)) x (outputAt (a .out-validity) (a .out-offsets) (a .out-data))
     (c .before .before .before .before .before .before .before .before .check-batch .ensures (a .body .now)) (c .before .before .before .before .before .before .enum-told .given .1) m t (c .before .enum-told4 .given .1) (c .stopped-test2 .ensures)
 
@@ -64,8 +65,8 @@ check-rest-requires : tie.Need-check-rest-requires
 check-rest-requires c κs =
     let a = c .before .before .before .before .before .before .before .before .before .before .before .before .before .before .before .args in
     let x = indexColumnAt (a .indices) (a .index-data) (a .index-validity) in
-    let m = c .before .before .before .check-first .result in
-    let t = subst (λ (d : Description). FirstToldOf (columnIn (a .body .now) d) x m) (c .before .before .before .before .describe .ensures) (c .before .before .before .check-first .ensures) in
+    let m = c .before .before .before .check-described .result in
+    let t = subst (λ (d : Description). ToldOf true (columnIn (a .body .now) d) x m) (c .before .before .before .before .describe .ensures) (c .before .before .before .check-described .ensures) in
     first-passed (batchIn (a .columns) (a .descriptions .now) (a .body .now)) x (outputAt (a .out-validity) (a .out-offsets) (a .out-data))
     (c .before .before .before .before .before .before .before .check-batch .ensures (a .body .now)) (c .before .before .before .before .before .enum-told .given .1) m t (c .enum-told3 .given .1)
 
@@ -82,8 +83,8 @@ returns-3 : tie.Need-returns-3
 returns-3 c =
     let a = c .before .before .before .before .before .before .before .before .before .before .before .before .before .before .before .before .before .before .before .before .args in
     let x = indexColumnAt (a .indices) (a .index-data) (a .index-validity) in
-    let m = c .before .before .before .before .before .before .before .before .check-first .result in
-    let t = subst (λ (d : Description). FirstToldOf (columnIn (a .body .now) d) x m) (c .before .before .before .before .before .before .before .before .before .describe .ensures) (c .before .before .before .before .before .before .before .before .check-first .ensures) in
+    let m = c .before .before .before .before .before .before .before .before .check-described .result in
+    let t = subst (λ (d : Description). ToldOf true (columnIn (a .body .now) d) x m) (c .before .before .before .before .before .before .before .before .before .describe .ensures) (c .before .before .before .before .before .before .before .before .check-described .ensures) in
     rest-stopped (batchIn (a .columns) (a .descriptions .now) (a .body .now)) x (outputAt (a .out-validity) (a .out-offsets) (a .out-data))
     (c .before .before .before .before .before .before .before .before .before .before .before .before .check-batch .ensures (a .body .now)) (c .before .before .before .before .before .before .before .before .before .before .enum-told .given .1) m t (c .before .before .before .before .before .enum-told3 .given .1) (c .before .before .before .before .check-rest .result) (c .before .before .before .before .check-rest .ensures)
     (c .before .enum-told6 .given .1) (c .stopped-test3 .ensures)
@@ -95,8 +96,8 @@ returns-4 : tie.Need-returns-4
 returns-4 c =
     let a = c .before .before .before .before .before .before .before .before .before .before .before .before .before .before .before .before .before .before .before .before .args in
     let x = indexColumnAt (a .indices) (a .index-data) (a .index-validity) in
-    let m = c .before .before .before .before .before .before .before .before .check-first .result in
-    let t = subst (λ (d : Description). FirstToldOf (columnIn (a .body .now) d) x m) (c .before .before .before .before .before .before .before .before .before .describe .ensures) (c .before .before .before .before .before .before .before .before .check-first .ensures) in
+    let m = c .before .before .before .before .before .before .before .before .check-described .result in
+    let t = subst (λ (d : Description). ToldOf true (columnIn (a .body .now) d) x m) (c .before .before .before .before .before .before .before .before .before .describe .ensures) (c .before .before .before .before .before .before .before .before .check-described .ensures) in
     all-tested (batchIn (a .columns) (a .descriptions .now) (a .body .now)) x (outputAt (a .out-validity) (a .out-offsets) (a .out-data))
     (c .before .before .before .before .before .before .before .before .before .before .before .before .check-batch .ensures (a .body .now)) (c .before .before .before .before .before .before .before .before .before .before .enum-told .given .1) m t (c .before .before .before .before .before .enum-told3 .given .1) (c .before .before .before .before .check-rest .result) (c .before .before .before .before .check-rest .ensures)
     (c .before .enum-told5 .given .1) (c .check-space .ensures)
@@ -111,7 +112,7 @@ check-spec =
     stopped-test-requires
     returns
     describe-requires
-    check-first-requires
+    check-described-requires
     enum-told-3
     enum-told-4
     stopped-test-requires-2

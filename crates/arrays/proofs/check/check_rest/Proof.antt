@@ -1,5 +1,6 @@
 -- `arrays::check::check_rest` meets its contract: after i columns, what they need together. Assumes nothing.
 use mathlib.Core.Path.{_≡_, subst}
+use mathlib.Core.Bool.{false}
 use Prim.Native.Nat.{ℕ, _-_}
 use native.Mathlib.Omega.{arith}
 use borrow.Author.Needs.{needs}
@@ -9,7 +10,7 @@ use Rattle.tables.specs.Bodies.{columnIn}
 use Rattle.gathers.specs.Ready.{InRange}
 use Rattle.batches.specs.Batch.{batchIn}
 use Rattle.batches.proofs.Passed.{few-columns}
-use Rattle.arrays.specs.Told.{ToldOf}
+use Rattle.described.specs.Told.{ToldOf}
 use Rattle.arrays.proofs.Counted.{Counted, counted-start, range-known, rest-refused, counted-more, sums-small, rest-told, record-there, stated-rows}
 use Rattle.arrays.proofs.check.check_rest.Statement.{statement}
 use Rattle.arrays.proofs.check.check_rest.Tie as tie
@@ -29,12 +30,12 @@ describe-requires c κs =
     let a = c .before .before .before .before .before .before .args in
     record-there (a .columns) (a .descriptions .now) (a .body .now) (c .before .before .before .before .before .before .pre .batch) (c .before .loop .i) (c .loop-test .taken)
 
-check-next-requires : tie.Need-check-next-requires Inv-loop μ-loop
-check-next-requires c κs =
+check-described-requires : tie.Need-check-described-requires Inv-loop μ-loop
+check-described-requires c κs =
     let a = c .before .before .before .before .before .before .before .args in
     let i = c .before .before .loop .i in
     let x = indexColumnAt (a .indices) (a .index-data) (a .index-validity) in
-    subst (λ (n : ℕ). InRange n x) (stated-rows (a .descriptions .now) (a .body .now) i (c .describe .ensures))
+    λ f. subst (λ (n : ℕ). InRange n x) (stated-rows (a .descriptions .now) (a .body .now) i (c .describe .ensures))
     (range-known (batchIn (a .columns) (a .descriptions .now) (a .body .now)) x (c .before .before .before .before .before .before .before .pre) i (c .before .loop-test .taken))
 
 enum-told : tie.Need-enum-told Inv-loop μ-loop
@@ -47,8 +48,8 @@ returns : tie.Need-returns Inv-loop μ-loop
 returns c =
     let a = c .before .before .before .before .before .before .before .before .before .before .before .args in
     let x = indexColumnAt (a .indices) (a .index-data) (a .index-validity) in
-    let m = c .before .before .before .check-next .result in
-    let t = subst (λ (d : Description). ToldOf (columnIn (a .body .now) d) x m) (c .before .before .before .before .describe .ensures) (c .before .before .before .check-next .ensures) in
+    let m = c .before .before .before .check-described .result in
+    let t = subst (λ (d : Description). ToldOf false (columnIn (a .body .now) d) x m) (c .before .before .before .before .describe .ensures) (c .before .before .before .check-described .ensures) in
     rest-refused (batchIn (a .columns) (a .descriptions .now) (a .body .now)) x (c .before .before .before .before .before .before .loop .inv) (c .before .before .before .before .before .loop-test .taken) m t (c .enum-told2 .given .1)
 
 add-validity : tie.Need-add-validity Inv-loop μ-loop
@@ -56,8 +57,8 @@ add-validity c =
     let a = c .before .before .before .before .before .before .before .before .before .before .before .before .args in
     let x = indexColumnAt (a .indices) (a .index-data) (a .index-validity) in
     let b = batchIn (a .columns) (a .descriptions .now) (a .body .now) in
-    let m = c .before .before .before .before .check-next .result in
-    let t = subst (λ (d : Description). ToldOf (columnIn (a .body .now) d) x m) (c .before .before .before .before .before .describe .ensures) (c .before .before .before .before .check-next .ensures) in
+    let m = c .before .before .before .before .check-described .result in
+    let t = subst (λ (d : Description). ToldOf false (columnIn (a .body .now) d) x m) (c .before .before .before .before .before .describe .ensures) (c .before .before .before .before .check-described .ensures) in
     omega (arith, sums-small b x (c .before .before .before .before .before .before .before .loop .inv) (c .before .before .before .before .before .before .loop-test .taken) m t (c .before .enum-told .given .1) (few-columns b (c .before .before .before .before .before .before .before .before .before .before .before .before .pre .batch)) .0)
 
 add-offsets : tie.Need-add-offsets Inv-loop μ-loop
@@ -65,8 +66,8 @@ add-offsets c =
     let a = c .before .before .before .before .before .before .before .before .before .before .before .before .before .args in
     let x = indexColumnAt (a .indices) (a .index-data) (a .index-validity) in
     let b = batchIn (a .columns) (a .descriptions .now) (a .body .now) in
-    let m = c .before .before .before .before .before .check-next .result in
-    let t = subst (λ (d : Description). ToldOf (columnIn (a .body .now) d) x m) (c .before .before .before .before .before .before .describe .ensures) (c .before .before .before .before .before .check-next .ensures) in
+    let m = c .before .before .before .before .before .check-described .result in
+    let t = subst (λ (d : Description). ToldOf false (columnIn (a .body .now) d) x m) (c .before .before .before .before .before .before .describe .ensures) (c .before .before .before .before .before .check-described .ensures) in
     omega (arith, sums-small b x (c .before .before .before .before .before .before .before .before .loop .inv) (c .before .before .before .before .before .before .before .loop-test .taken) m t (c .before .before .enum-told .given .1) (few-columns b (c .before .before .before .before .before .before .before .before .before .before .before .before .before .pre .batch)) .1)
 
 add-data : tie.Need-add-data Inv-loop μ-loop
@@ -74,8 +75,8 @@ add-data c =
     let a = c .before .before .before .before .before .before .before .before .before .before .before .before .before .before .args in
     let x = indexColumnAt (a .indices) (a .index-data) (a .index-validity) in
     let b = batchIn (a .columns) (a .descriptions .now) (a .body .now) in
-    let m = c .before .before .before .before .before .before .check-next .result in
-    let t = subst (λ (d : Description). ToldOf (columnIn (a .body .now) d) x m) (c .before .before .before .before .before .before .before .describe .ensures) (c .before .before .before .before .before .before .check-next .ensures) in
+    let m = c .before .before .before .before .before .before .check-described .result in
+    let t = subst (λ (d : Description). ToldOf false (columnIn (a .body .now) d) x m) (c .before .before .before .before .before .before .before .describe .ensures) (c .before .before .before .before .before .before .check-described .ensures) in
     omega (arith, sums-small b x (c .before .before .before .before .before .before .before .before .before .loop .inv) (c .before .before .before .before .before .before .before .before .loop-test .taken) m t (c .before .before .before .enum-told .given .1) (few-columns b (c .before .before .before .before .before .before .before .before .before .before .before .before .before .before .pre .batch)) .2)
 
 add-i : tie.Need-add-i Inv-loop μ-loop
@@ -91,8 +92,8 @@ loop-again c =
     let a = c .before .before .before .before .before .before .before .before .before .before .before .before .before .before .args in
     let x = indexColumnAt (a .indices) (a .index-data) (a .index-validity) in
     let b = batchIn (a .columns) (a .descriptions .now) (a .body .now) in
-    let m = c .before .before .before .before .before .before .check-next .result in
-    let t = subst (λ (d : Description). ToldOf (columnIn (a .body .now) d) x m) (c .before .before .before .before .before .before .before .describe .ensures) (c .before .before .before .before .before .before .check-next .ensures) in
+    let m = c .before .before .before .before .before .before .check-described .result in
+    let t = subst (λ (d : Description). ToldOf false (columnIn (a .body .now) d) x m) (c .before .before .before .before .before .before .before .describe .ensures) (c .before .before .before .before .before .before .check-described .ensures) in
     counted-more b x (c .before .before .before .before .before .before .before .before .before .loop .inv) (c .before .before .before .before .before .before .before .before .loop-test .taken) m t (c .before .before .before .enum-told .given .1)
 
 returns-2 : tie.Need-returns-2 Inv-loop μ-loop
@@ -109,7 +110,7 @@ check-rest-spec =
     μ-loop
     loop-holds
     describe-requires
-    check-next-requires
+    check-described-requires
     enum-told
     enum-told-2
     returns

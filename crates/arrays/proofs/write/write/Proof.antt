@@ -11,7 +11,7 @@ use Rattle.gathers.specs.Stored.{outputAt, store}
 use Rattle.gathers.specs.Ready.{Ready, NoOverflow}
 use Rattle.batches.specs.Batch.{batchIn}
 use Rattle.batches.proofs.Passed.{few-columns}
-use Rattle.described.specs.Needs.{takenOf, HasRoomFor}
+use Rattle.described.specs.Taken.{takenOf, HasRoomFor}
 use Rattle.arrays.proofs.Counted.{record-there, stated-rows}
 use Rattle.arrays.proofs.Laid.{Laid, laid-start, there-validity, there-offsets, there-data, kept-validity, kept-offsets, kept-data, next-ready, next-small, next-outside, next-room, sums-small, laid-more, all-told, all-laid, tails}
 use Rattle.arrays.proofs.write.write.Statement.{statement}

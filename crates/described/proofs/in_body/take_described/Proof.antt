@@ -5,7 +5,7 @@ use Rattle.tables.specs.Columns.{Column, indexColumnAt}
 use Rattle.gathers.specs.Taken.{taken}
 use Rattle.gathers.specs.Stored.{outputAt, store}
 use Rattle.gathers.specs.Ready.{Ready, NoOverflow}
-use Rattle.described.specs.Needs.{takenOf, HasRoomFor}
+use Rattle.described.specs.Taken.{takenOf, HasRoomFor}
 use Rattle.tables.proofs.Bodies.{uncut-data, uncut-validity}
 use Rattle.described.proofs.Placed.{well-formed-whole, offsets-there, placed}
 use Rattle.described.proofs.in_body.take_described.Statement.{statement}

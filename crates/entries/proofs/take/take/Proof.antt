@@ -1,9 +1,7 @@
 -- `entries::take::take` meets its contract: by what the tests answer, and the blanked table's clause by demand 3. Assumes nothing.
-use Rattle.gathers.specs.Stored.{outputAt}
-use Rattle.entries.proofs.Gathering.{both, turned-away, ready, outside-told, overflow-passed, validity-room, data-room, all-stored}
-use Rattle.gathers.proofs.Buffers.{validates}
-use Rattle.stages.proofs.Routines.{validity-held, validity-stored, nulls-counted}
 use borrow.Author.Needs.{needs}
+use Rattle.gathers.specs.Stored.{outputAt}
+use Rattle.entries.proofs.Gathering.{both, turned-away, ready, outside-told, overflow-passed, room, all-stored}
 use Rattle.entries.proofs.take.take.Statement.{statement}
 use Rattle.entries.proofs.take.take.Tie as tie
 
@@ -16,25 +14,13 @@ enum-known-checked c = search needs
 enum-told : tie.Need-enum-told
 enum-told c = search needs
 
-take-nulls-requires : tie.Need-take-nulls-requires
-take-nulls-requires c κs =
-    let t = c .before in
-    let e = t .before .before .check .ensures in
-    let f = t .enum-told .given .1 in
-    let a = t .before .before .before .before .before .before .before .before .before .before .before .before .before .before .args in
+take-column-requires : tie.Need-take-column-requires
+take-column-requires c κs =
+    let a = c .before .before .before .before .before .before .before .before .before .before .before .before .before .before .before .before .before .args in
     let o = outputAt (a .out-validity) (a .out-offsets) (a .out-data) in
-    let r = ready _ _ o e f in
-    (r .indices, (validity-held _ _ r, validity-room _ _ o e f))
-
-take-values-requires : tie.Need-take-values-requires
-take-values-requires c κs =
-    let n = c .before .before .before .before .before .take-nulls .ensures in
-    let t = c .before .before .before .before .before .before .before in
-    let e = t .before .before .check .ensures in
-    let f = t .enum-told .given .1 in
-    let a = t .before .before .before .before .before .before .before .before .before .before .before .before .before .before .args in
-    let o = outputAt (a .out-validity) (a .out-offsets) (a .out-data) in
-    (ready _ _ o e f, (data-room _ _ o e f, (outside-told _ _ o e f, (overflow-passed _ _ o e f, validates _ _ _ _ (validity-room _ _ o e f) (n .1)))))
+    let e = c .before .before .before .before .before .check .ensures in
+    let f = c .before .before .before .enum-told .given .1 in
+    (ready _ _ o e f, (overflow-passed _ _ o e f, (outside-told _ _ o e f, room _ _ o e f)))
 
 same-length : tie.Need-same-length
 same-length c = search needs
@@ -47,13 +33,8 @@ same-length-3 c = search needs
 
 returns : tie.Need-returns
 returns c =
-    let d = c .before .before .before .before .take-values .ensures in
-    let n = c .before .before .before .before .before .before .before .before .before .before .take-nulls .ensures in
-    let t = c .before .before .before .before .before .before .before .before .before .before .before .before in
-    let e = t .before .before .check .ensures in
-    let f = t .enum-told .given .1 in
-    let r = ready _ _ _ e f in
-    both _ _ _ (all-stored _ _ _ e f (nulls-counted _ _ r (n .0)) (validity-stored _ _ r _ (n .1)) (d .0) (d .1))
+    let t = c .before .before .before .before .before .before .before .take-column .ensures in
+    both _ _ _ (all-stored _ _ _ (c .before .before .before .before .before .before .before .before .before .before .before .before .before .check .ensures) (c .before .before .before .before .before .before .before .before .before .before .before .enum-told .given .1) (c .before .before .before .before .before .before .before .take-column .result) (t .0) (t .1))
 
 same-length-4 : tie.Need-same-length-4
 same-length-4 c = search needs
@@ -74,8 +55,7 @@ take-spec =
     check-requires
     enum-known-checked
     enum-told
-    take-nulls-requires
-    take-values-requires
+    take-column-requires
     same-length
     same-length-2
     same-length-3

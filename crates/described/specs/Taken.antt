@@ -1,28 +1,16 @@
--- What the stages tell of the rows that are taken from one column of several: what they need of the outputs, and what they took of them.
-use Prim.Native.Nat.{ℕ, suc, _+_, _*_, _^_, _≤_, _<_}
+-- What the writing of one column's rows asks and tells.
+use Prim.Native.Nat.{ℕ, _+_, _*_, _^_, _≤_, _<_}
 use mathlib.Core.Path.{_≡_}
-use mathlib.Core.Bool.{true, cond}
+use mathlib.Core.Bool.{true}
 use mathlib.Core.List.{List}
 use lib.ListN.{length}
 use Rattle.bits.specs.Numbers.{numberAt, isNumberWidth}
 use Rattle.bits.specs.Bits.{bytesFor}
-use Rattle.tables.specs.declared.refusal.Checked.{Checked}
-use Rattle.tables.specs.declared.refusal.Checked.the-variants.{Fit}
 use Rattle.tables.specs.declared.table.Layout.{Layout}
 use Rattle.tables.specs.declared.table.Layout.the-variants.{FixedWidth, BitMap, VariableWidth}
-use Rattle.tables.specs.declared.table.Lengths.{Lengths}
-use Rattle.tables.specs.declared.table.Uses.{Uses}
-use Rattle.tables.specs.declared.table.Description.{Description}
-use Rattle.tables.specs.Stages.{checkedNumbers}
 use Rattle.tables.specs.Rows.{Rows}
 use Rattle.gathers.specs.Stored.{Output, validityLength, offsetLength, dataLength, neededLengths, nullCount}
-use Rattle.gathers.specs.Stages.{overflowRefusal}
-use Rattle.described.specs.declared.column.Needs.{Needs}
 use Rattle.described.specs.declared.column.Taken.{Taken}
-
--- refusal 6; and where it lets pass, the bytes that the rows need
-abbrev pub NeedsOf : Rows → Needs → Type 0
-NeedsOf v r = (checkedNumbers (r .checked) ≡ overflowRefusal v) × (r .checked ≡ Fit → r .needed ≡ neededLengths v)
 
 abbrev pub takenOf : Rows → Taken
 takenOf v = record { needed = neededLengths v; nulls = nullCount v }
@@ -44,7 +32,3 @@ abbrev pub OffsetsIn : Layout → ℕ → ℕ → List ℕ → Type 0
 OffsetsIn (FixedWidth n) w count s = count * n < 2 ^ 64
 OffsetsIn BitMap w count s = count + 7 < 2 ^ 64
 OffsetsIn (VariableWidth u) w count s = (isNumberWidth w ≡ true) × (count * w + w ≤ length s) × (numberAt w s count * u < 2 ^ 64)
-
--- the lengths of the buffers that are used, as stated
-abbrev pub statedLengths : Uses → Description → Lengths
-statedLengths u d = record { «data» = d .«data» .len; offsets = cond (u .«offset_width») (d .offsets .len) 0; validity = d .validity .len }
