@@ -1,22 +1,22 @@
-// A case: a line that gives a column, an index column and, after '=', what the gather answers and writes. It is run through the exported entry, with
-// outputs that have just the room needed and with longer ones; bytes that should be kept are compared like those that should be written.
+// A case: a line that gives one or several columns, an index column and, after '=', what the gather answers and writes. It is run through the exported
+// entry, with outputs that have just the room needed and with longer ones; bytes that should be kept are compared like those that should be written.
+use crate::batch::body_place;
+use crate::batch::is_batch;
+use crate::batch::is_batch_field;
+use crate::batch::take_batch;
+use crate::column::is_column_field;
+use crate::column::take_column;
+use crate::text::ROOM;
+use crate::text::after;
 use crate::text::byte_at;
-use crate::text::byte_count;
-use crate::text::decode;
 use crate::text::field;
+use crate::text::find;
 use crate::text::is_bytes;
 use crate::text::is_digits;
+use crate::text::is_text;
 use crate::text::number;
-use crate::text::part;
 use bits::number::read_u64;
-use hoglidra::export::hoglidra_take;
 ghost use Prim.Native.Nat.{_≤_};
-
-// The most bytes that a buffer of a case has.
-const ROOM: usize = 1024;
-
-// Room for the five source buffers.
-const SOURCES: usize = 5 * ROOM;
 
 // Room for an output, with some to spare.
 const LENT: usize = ROOM + 16;
@@ -42,32 +42,48 @@ pub enum Verdict {
     },
 }
 
-// Where each source buffer of a case ends.
-struct Ends {
-    data: usize,
-    offsets: usize,
-    validity: usize,
-    index_data: usize,
-    index_validity: usize,
+// The place of the first field of the tail: the index column, and what is answered and written.
+fn tail_place(line: &[u8]) -> usize
+    ensures { λ r. ⌜ r ≤ 467 ⌝ }
+{
+    if is_batch(line) {
+        return body_place(line) + 1;
+    }
+    10
 }
 
-// Whether a field is what stands at place n of a case.
-fn is_field(field: &[u8], n: usize) -> bool {
+// Whether a field is what stands at place n of the tail.
+fn is_tail_field(field: &[u8], n: usize) -> bool {
     match n {
-        7..=9 | 13..=14 | 20..=22 => is_bytes(field) & (byte_count(field) <= ROOM),
-        15 => field.len() == 1 && field[0] == b'=',
-        23 => field.len() == 0,
+        3..=4 | 10..=12 => is_bytes(field),
+        5 => is_text(field, b"="),
         _ => is_digits(field, 9),
     }
 }
 
+// Whether field n of a line is what stands there, where the tail starts at place `tail`.
+fn is_field(line: &[u8], n: usize, tail: usize) -> bool {
+    let it = field(line, n);
+    if tail <= n {
+        return is_tail_field(it, n - tail);
+    }
+    if is_batch(line) {
+        return is_batch_field(it, n, tail - 1);
+    }
+    is_column_field(it, n)
+}
+
+// Whether each field is what stands there, and none follows.
 fn is_case(line: &[u8]) -> bool {
-    for n in 0..24 {
-        if !is_field(field(line, n), n) {
+    let tail = tail_place(line);
+    let end = tail + 13;
+    for n in 0..end {
+        if !is_field(line, n, tail) {
             return false;
         }
     }
-    true
+    let last = after(line, tail + 12);
+    find(last, 0, b' ') == last.len()
 }
 
 // Compares an output with the bytes that a field gives; those past them should be as they were.
@@ -88,81 +104,74 @@ fn compare_bytes(field: &[u8], got: &[u8], which: u64) -> Verdict {
     Verdict::Alike
 }
 
-fn compare_number(line: &[u8], got: u64, which: u64) -> Verdict
+fn compare_number(tail: &[u8], got: u64, which: u64) -> Verdict
     requires { ⌜ which ≤ 3 ⌝ }
 {
-    let want = number(field(line, 16 + which as usize));
+    let want = number(field(tail, 6 + which as usize));
     if got != want {
         return Verdict::Number { which, got, want };
     }
     Verdict::Alike
 }
 
-fn compare_answer(line: &[u8], returned: u64, answer: &[u8; 40]) -> Verdict {
-    let mut verdict = compare_number(line, returned, 0);
+fn compare_answer(tail: &[u8], returned: u64, answer: &[u8; 40]) -> Verdict {
+    let mut verdict = compare_number(tail, returned, 0);
     let mut i = 0;
     while i < 4 {
         let Verdict::Alike = verdict else {
             return verdict;
         };
-        verdict = compare_number(line, read_u64(answer, 8 * i), i as u64);
+        verdict = compare_number(tail, read_u64(answer, 8 * i), i as u64);
         i += 1;
     }
     let Verdict::Alike = verdict else {
         return verdict;
     };
     let whole = &answer[..];
-    compare_bytes(&line[0..0], &whole[32..], 4)
+    compare_bytes(&tail[0..0], &whole[32..], 4)
 }
 
-fn compare_outputs(line: &[u8], validity: &[u8], offsets: &[u8], data: &[u8]) -> Verdict {
-    let first = compare_bytes(field(line, 20), validity, 1);
+fn compare_outputs(tail: &[u8], validity: &[u8], offsets: &[u8], data: &[u8]) -> Verdict {
+    let first = compare_bytes(field(tail, 10), validity, 1);
     let Verdict::Alike = first else {
         return first;
     };
-    let second = compare_bytes(field(line, 21), offsets, 2);
+    let second = compare_bytes(field(tail, 11), offsets, 2);
     let Verdict::Alike = second else {
         return second;
     };
-    compare_bytes(field(line, 22), data, 3)
+    compare_bytes(field(tail, 12), data, 3)
+}
+
+fn take(
+    line: &[u8],
+    tail: &[u8],
+    validity: &mut [u8],
+    offsets: &mut [u8],
+    data: &mut [u8],
+    answer: &mut [u8],
+) -> u64 {
+    if is_batch(line) {
+        return take_batch(line, tail, validity, offsets, data, answer);
+    }
+    take_column(line, tail, validity, offsets, data, answer)
 }
 
 // Gathers into outputs as they are lent, and compares all of them.
 fn gather(
     line: &[u8],
-    sources: &[u8],
-    ends: Ends,
+    tail: &[u8],
     validity: &mut [u8],
     offsets: &mut [u8],
     data: &mut [u8],
 ) -> Verdict {
     let mut answer = [FILL; 40];
-    let returned = hoglidra_take(
-        number(field(line, 0)),
-        number(field(line, 1)),
-        number(field(line, 2)),
-        number(field(line, 3)),
-        number(field(line, 4)),
-        number(field(line, 5)),
-        number(field(line, 6)),
-        part(sources, 0, ends.data),
-        part(sources, ends.data, ends.offsets),
-        part(sources, ends.offsets, ends.validity),
-        number(field(line, 10)),
-        number(field(line, 11)),
-        number(field(line, 12)),
-        part(sources, ends.validity, ends.index_data),
-        part(sources, ends.index_data, ends.index_validity),
-        validity,
-        offsets,
-        data,
-        &mut answer,
-    );
-    let answered = compare_answer(line, returned, &answer);
+    let returned = take(line, tail, validity, offsets, data, &mut answer);
+    let answered = compare_answer(tail, returned, &answer);
     let Verdict::Alike = answered else {
         return answered;
     };
-    compare_outputs(line, validity, offsets, data)
+    compare_outputs(tail, validity, offsets, data)
 }
 
 // How many bytes of an output are lent: those that the field gives, and `more`.
@@ -175,8 +184,7 @@ fn lent(field: &[u8], more: usize) -> usize
 // Lends outputs that have `more` bytes beyond those that the case gives.
 fn lend(
     line: &[u8],
-    sources: &[u8],
-    ends: Ends,
+    tail: &[u8],
     more: usize,
     validity: &mut [u8],
     offsets: &mut [u8],
@@ -184,9 +192,9 @@ fn lend(
 ) -> Verdict
     requires { ⌜ more ≤ 16 ⌝ }
 {
-    let validity_len = lent(field(line, 20), more);
-    let offsets_len = lent(field(line, 21), more);
-    let data_len = lent(field(line, 22), more);
+    let validity_len = lent(field(tail, 10), more);
+    let offsets_len = lent(field(tail, 11), more);
+    let data_len = lent(field(tail, 12), more);
     if validity.len() < validity_len {
         return Verdict::Unreadable;
     }
@@ -198,8 +206,7 @@ fn lend(
     }
     gather(
         line,
-        sources,
-        ends,
+        tail,
         &mut validity[0..validity_len],
         &mut offsets[0..offsets_len],
         &mut data[0..data_len],
@@ -207,37 +214,13 @@ fn lend(
 }
 
 // The arrays are lent whole, since parts are proved of slices with less.
-fn lend_filled(line: &[u8], sources: &[u8], ends: Ends, more: usize) -> Verdict
+fn lend_filled(line: &[u8], tail: &[u8], more: usize) -> Verdict
     requires { ⌜ more ≤ 16 ⌝ }
 {
     let mut validity = [FILL; LENT];
     let mut offsets = [FILL; LENT];
     let mut data = [FILL; LENT];
-    lend(
-        line,
-        sources,
-        ends,
-        more,
-        &mut validity,
-        &mut offsets,
-        &mut data,
-    )
-}
-
-// The source buffers of a case, one after the other.
-fn decode_sources(line: &[u8], sources: &mut [u8]) -> Ends {
-    let data = decode(field(line, 7), sources, 0);
-    let offsets = decode(field(line, 8), sources, data);
-    let validity = decode(field(line, 9), sources, offsets);
-    let index_data = decode(field(line, 13), sources, validity);
-    let index_validity = decode(field(line, 14), sources, index_data);
-    Ends {
-        data,
-        offsets,
-        validity,
-        index_data,
-        index_validity,
-    }
+    lend(line, tail, more, &mut validity, &mut offsets, &mut data)
 }
 
 // Runs a case with outputs that have the room needed, and with outputs that have nine bytes more.
@@ -245,11 +228,10 @@ pub fn run(line: &[u8]) -> Verdict {
     if !is_case(line) {
         return Verdict::Unreadable;
     }
-    let mut sources = [0u8; SOURCES];
-    let ends = decode_sources(line, &mut sources);
-    let exact = lend_filled(line, &sources, ends, 0);
+    let tail = after(line, tail_place(line));
+    let exact = lend_filled(line, tail, 0);
     let Verdict::Alike = exact else {
         return exact;
     };
-    lend_filled(line, &sources, ends, 9)
+    lend_filled(line, tail, 9)
 }

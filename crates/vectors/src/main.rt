@@ -1,6 +1,8 @@
-// Runs every case of the files beside it through the exported entry, and compares each number of the answer and each byte of the outputs. Writes a line
+// Runs every case of the files beside it through the exported entries, and compares each number of the answer and each byte of the outputs. Writes a line
 // for each file, and before it the file's first difference, if there is one.
+mod batch; // batch.rt: the columns of a case that has several
 mod case; // case.rt: a case, run and compared
+mod column; // column.rt: the column of a case that has one
 mod report; // report.rt: what is written
 mod text; // text.rt: fields, numbers and bytes of a text
 
@@ -63,4 +65,5 @@ fn main() {
     run_file(b"columnar-format.txt");
     run_file(b"take-docs.txt");
     run_file(b"take-kernels.txt");
+    run_file(b"arrays.txt");
 }

@@ -2,6 +2,9 @@
 ghost use Prim.Native.Nat.{_≤_};
 ghost use lib.ListN.{length};
 
+// The most bytes that a field gives.
+pub const ROOM: usize = 1024;
+
 // Where the first such byte stands at or after `from`, or the text's end.
 pub fn find(text: &[u8], from: usize, byte: u8) -> usize
     requires { ⌜ from ≤ length (now text) ⌝ }
@@ -17,8 +20,8 @@ pub fn find(text: &[u8], from: usize, byte: u8) -> usize
     at
 }
 
-// Field n of a line, where one space stands between two fields; empty where there are fewer.
-pub fn field(line: &[u8], n: usize) -> &[u8] {
+// A line from its field n on, where one space stands between two fields; empty where there are fewer.
+pub fn after(line: &[u8], n: usize) -> &[u8] {
     let mut from = 0;
     let mut left = n;
     while 0 < left {
@@ -29,8 +32,30 @@ pub fn field(line: &[u8], n: usize) -> &[u8] {
         from = end + 1;
         left -= 1;
     }
-    let to = find(line, from, b' ');
+    let to = line.len();
     &line[from..to]
+}
+
+// Field n of a line; empty where there are fewer.
+pub fn field(line: &[u8], n: usize) -> &[u8] {
+    let rest = after(line, n);
+    let to = find(rest, 0, b' ');
+    &rest[0..to]
+}
+
+// Whether a field is such a text.
+pub fn is_text(field: &[u8], text: &[u8]) -> bool {
+    if field.len() != text.len() {
+        return false;
+    }
+    let mut i = 0;
+    while i < field.len() {
+        if field[i] != text[i] {
+            return false;
+        }
+        i += 1;
+    }
+    true
 }
 
 // A digit's value, to 15 for f, or 16 where the byte is no digit.
@@ -74,8 +99,11 @@ pub fn is_digits(field: &[u8], most: u64) -> bool {
     0 < field.len()
 }
 
-// Whether a field gives bytes in hexadecimal, two digits each; a hyphen gives none.
+// Whether a field gives bytes in hexadecimal, two digits each, and no more of them than there may be; a hyphen gives none.
 pub fn is_bytes(field: &[u8]) -> bool {
+    if ROOM < byte_count(field) {
+        return false;
+    }
     if field.len() == 1 {
         return field[0] == b'-';
     }

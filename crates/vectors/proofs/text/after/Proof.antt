@@ -1,9 +1,9 @@
--- `vectors::text::field` is safe and ends. Assumes nothing.
+-- `vectors::text::after` is safe and ends. Assumes nothing.
 use Prim.Native.Nat.{_≤_}
 use lib.ListN.{length}
 use borrow.Author.Needs.{needs}
-use Rattle.vectors.proofs.text.field.Statement.{statement}
-use Rattle.vectors.proofs.text.field.Tie as tie
+use Rattle.vectors.proofs.text.after.Statement.{statement}
+use Rattle.vectors.proofs.text.after.Tie as tie
 
 abbrev Inv-loop : tie.InvT-loop
 Inv-loop line n from₀ left₀ from left = from ≤ length line
@@ -41,9 +41,6 @@ loop-less c = search needs
 loop-again : tie.Need-loop-again Inv-loop μ-loop
 loop-again c = search needs
 
-find-requires-2 : tie.Need-find-requires-2 Inv-loop μ-loop
-find-requires-2 c κs = search needs
-
 sub-result-2 : tie.Need-sub-result-2 Inv-loop μ-loop
 sub-result-2 c = search needs
 
@@ -56,8 +53,8 @@ part-result-end-2 c = search needs
 returns-2 : tie.Need-returns-2 Inv-loop μ-loop
 returns-2 c = search needs
 
-pub field-spec : {M : Type 1} → statement M
-field-spec =
+pub after-spec : {M : Type 1} → statement M
+after-spec =
     tie.close
     (tie.spec
     Inv-loop
@@ -72,7 +69,6 @@ field-spec =
     sub-left
     loop-less
     loop-again
-    find-requires-2
     sub-result-2
     part-result-start-2
     part-result-end-2
