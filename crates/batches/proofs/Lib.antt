@@ -1,3 +1,4 @@
+pub mod AllTrials
 pub mod Refused
 pub mod Passed
 pub mod Alike

@@ -1,3 +1,4 @@
 pub mod Batch
 pub mod Separate
 pub mod Passed
+pub mod Trials
