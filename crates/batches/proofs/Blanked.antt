@@ -9,9 +9,9 @@ use Rattle.gathers.specs.Stored.{Output}
 use Rattle.gathers.specs.Blank.{blank}
 use Rattle.batches.specs.Batch.{Batch, gatherArrays, cleared, clearedBatch}
 use Rattle.tables.proofs.Facts.{passed-well-formed}
-use Rattle.gathers.proofs.Alike.{TakenAlike, alike-self}
+use Rattle.gathers.proofs.Exchanged.{TakenAlike, alike-self}
 use Rattle.gathers.proofs.Blanked.{blank-alike, blank-rows}
-use Rattle.batches.proofs.Alike.{arrays-alike}
+use Rattle.batches.proofs.Exchanged.{arrays-alike}
 
 module _ (x : IndexColumn) (c : Column) where
   pub cleared-rows : cleared x c .table .rows ≡ c .table .rows

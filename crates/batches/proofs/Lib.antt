@@ -1,7 +1,7 @@
 pub mod AllTrials
 pub mod Refused
 pub mod Passed
-pub mod Alike
+pub mod Exchanged
 pub mod Blanked
 pub mod One
 pub mod Separate

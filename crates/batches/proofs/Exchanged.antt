@@ -18,7 +18,7 @@ use Rattle.bits.proofs.Sequences.{concat-cong, sum-cong, any-cong}
 use Rattle.tables.proofs.Lines.{lines-cong, lines-passed, orElse-passes}
 use Rattle.gathers.proofs.Stages.{through-refusing, passed-before}
 use Rattle.gathers.proofs.Store.{StoredAlike, total-alike}
-use Rattle.gathers.proofs.Alike.{TakenAlike, through-alike}
+use Rattle.gathers.proofs.Exchanged.{TakenAlike, through-alike}
 use Rattle.batches.proofs.Refused.{by-stages}
 
 -- ---- rows that are stored alike are joined alike
