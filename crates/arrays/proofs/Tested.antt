@@ -1,10 +1,6 @@
 -- The first refusal of a batch by what its stages answer: the laws that `check` cites at each return. Assumes nothing.
-use mathlib.Core.Path.{_≡_, refl, sym, ap, _∙_, subst}
+use mathlib.Core.Path.{_≡_, sym, ap, _∙_, subst}
 use mathlib.Core.Bool.{true}
-use mathlib.Core.List.{List}
-use Prim.Native.Nat.{ℕ, _<_}
-use native.Mathlib.Nat.{not-suc-le-zero}
-use Rattle.tables.specs.declared.refusal.Answer.{Answer}
 use Rattle.tables.specs.declared.refusal.Checked.{Checked}
 use Rattle.tables.specs.declared.refusal.Checked.the-variants.{Fit, Unfit}
 use Rattle.tables.specs.declared.refusal.Refusal.{Refusal}
@@ -18,11 +14,9 @@ use Rattle.batches.specs.Batch.{Batch, batchLines, arraysRefusals}
 use Rattle.stages.specs.Space.{lengthsRefusal}
 use Rattle.described.specs.declared.column.Through.{Through}
 use Rattle.arrays.specs.declared.check.Tested.{Tested}
-use Rattle.arrays.specs.Told.{FirstPassed, AllToldOf, stoppedTestAt, TestedOf}
+use Rattle.arrays.specs.Told.{AllToldOf, stoppedTestAt, TestedOf}
 use Rattle.stages.proofs.Spaces.{lengthsRefusal-lines}
-use Rattle.batches.proofs.Refused.{stops-batch, stops-column, stops-columns, ends-columns}
-use Rattle.batches.proofs.Passed.{some-columns}
-use Rattle.described.specs.Told.{ToldOf}
+use Rattle.batches.proofs.Refused.{stops-batch, stops-columns, ends-columns}
 use Rattle.described.proofs.Columns.{lets-pass, refuses, not-fit}
 
 module _ (b : Batch) (x : IndexColumn) (o : Output) where
@@ -36,28 +30,20 @@ module _ (b : Batch) (x : IndexColumn) (o : Output) where
   pub batch-stopped : {s : Checked} {r : Refusal} {t : Tested} → checkedNumbers s ≡ firstOf (batchLines b) → s ≡ Unfit r → t ≡ stoppedTestAt s → Answers t
   batch-stopped e f d = stopped (e ∙ stops-batch b x o (refuses e f)) f d
 
-  module _ {s : Checked} (se : checkedNumbers s ≡ firstOf (batchLines b)) (sf : s ≡ Fit) (m : Through) (me : ToldOf true (b .column 0) x m) where
-    batch : passes (firstOf (batchLines b)) ≡ true
-    batch = lets-pass se sf
+  module _ {s : Checked} (se : checkedNumbers s ≡ firstOf (batchLines b)) (sf : s ≡ Fit) where
+    pub batch-passed : passes (firstOf (batchLines b)) ≡ true
+    batch-passed = lets-pass se sf
 
-    pub first-stopped : {r : Refusal} {t : Tested} → m .checked ≡ Unfit r → t ≡ stoppedTestAt (m .checked) → Answers t
-    first-stopped f d =
-        stopped (me .0 ∙ stops-column b x o batch 0 (some-columns b batch) (λ i h. absurd (not-suc-le-zero h)) (refuses (me .0) f)) f d
+    module _ (q : Through) (qe : AllToldOf b x q) where
+      pub columns-stopped : {r : Refusal} {t : Tested} → q .checked ≡ Unfit r → t ≡ stoppedTestAt (q .checked) → Answers t
+      columns-stopped f d = stopped (qe .0 ∙ stops-columns b x o batch-passed (refuses (qe .0) f)) f d
 
-    module _ (mf : m .checked ≡ Fit) where
-      pub first-passed : FirstPassed b x (m .needed)
-      first-passed = record { batch = batch; column = lets-pass (me .0) mf; needed = me .1 mf .0 }
-
-      module _ (q : Through) (qe : AllToldOf b x q) where
-        pub rest-stopped : {r : Refusal} {t : Tested} → q .checked ≡ Unfit r → t ≡ stoppedTestAt (q .checked) → Answers t
-        rest-stopped f d = stopped (qe .0 ∙ stops-columns b x o batch (refuses (qe .0) f)) f d
-
-        pub all-tested : q .checked ≡ Fit → {w : Checked} → checkedNumbers w ≡ lengthsRefusal (q .needed) (lentLengths o)
-            → Answers (record { checked = w; outside = m .outside })
-        all-tested qf e = (
-          e
-              ∙ lengthsRefusal-lines (q .needed) (lentLengths o)
-              ∙ ap (λ (n : Lengths). firstOf (spaceLines n (lentLengths o))) (qe .1 qf)
-              ∙ ends-columns b x o batch (lets-pass (qe .0) qf),
-          λ f. me .1 mf .1 refl,
-        )
+      pub all-tested : q .checked ≡ Fit → {w : Checked} → checkedNumbers w ≡ lengthsRefusal (q .needed) (lentLengths o)
+          → Answers (record { checked = w; outside = q .outside })
+      all-tested qf e = (
+        e
+            ∙ lengthsRefusal-lines (q .needed) (lentLengths o)
+            ∙ ap (λ (n : Lengths). firstOf (spaceLines n (lentLengths o))) (qe .1 qf .0)
+            ∙ ends-columns b x o batch-passed (lets-pass (qe .0) qf),
+        λ f. qe .1 qf .1,
+      )

@@ -9,13 +9,13 @@ use tables::refusal::Checked;
 use tables::table::Indices;
 use tables::table::Lengths;
 ghost use mathlib.Core.Path.{_≡_};
-ghost use Prim.Native.Nat.{_≤_};
+ghost use mathlib.Core.Bool.{true};
 ghost use Rattle.tables.specs.Columns.{indexColumnAt};
-ghost use Rattle.tables.specs.Answers.{firstOf};
+ghost use Rattle.tables.specs.Answers.{passes, firstOf};
 ghost use Rattle.tables.specs.Stages.{checkedNumbers};
 ghost use Rattle.gathers.specs.Stored.{outputAt};
-ghost use Rattle.batches.specs.Batch.{batchAt, arraysRefusals};
-ghost use Rattle.arrays.specs.Told.{FirstPassed, AllToldOf, TestedOf, stoppedTestAt};
+ghost use Rattle.batches.specs.Batch.{batchAt, batchLines, arraysRefusals};
+ghost use Rattle.arrays.specs.Told.{AllToldOf, TestedOf, stoppedTestAt};
 
 // The first refusal. Where there is none, `outside` says whether some number of the indices, then one under a null index, is that of no row.
 pub struct Tested {
@@ -32,26 +32,26 @@ fn stopped_test(checked: Checked) -> Tested
     }
 }
 
-// The columns after the first, which needs `first`.
-fn check_rest(
+// The columns one by one, each through overflow, and what they need together.
+fn check_columns(
     columns: usize,
     descriptions: &[u8],
     body: &[u8],
     indices: Indices,
     index_data: &[u8],
     index_validity: &[u8],
-    first: Lengths,
 ) -> Through
-    requires { ⌜ FirstPassed (batchAt columns descriptions body) (indexColumnAt indices «index_data» «index_validity») first ⌝ }
+    requires { ⌜ passes (firstOf (batchLines (batchAt columns descriptions body))) ≡ true ⌝ }
     ensures { λ r. ⌜ AllToldOf (batchAt columns (descriptions .entry) (body .entry)) (indexColumnAt indices («index_data» .entry) («index_validity» .entry)) r ⌝ }
 {
-    let mut validity = first.validity;
-    let mut offsets = first.offsets;
-    let mut data = first.data;
-    let mut i: usize = 1;
+    let mut validity: u64 = 0;
+    let mut offsets: u64 = 0;
+    let mut data: u64 = 0;
+    let mut outside = false;
+    let mut i: usize = 0;
     while i < columns {
         let d = describe(descriptions, i);
-        let next = check_described(d, body, indices, index_data, index_validity, false);
+        let next = check_described(d, body, indices, index_data, index_validity, i == 0);
         let checked = next.checked;
         let needed = next.needed;
         let Checked::Fit = checked else {
@@ -60,6 +60,7 @@ fn check_rest(
         validity += needed.validity;
         offsets += needed.offsets;
         data += needed.data;
+        outside = outside | next.outside;
         i += 1;
     }
     let needed = Lengths {
@@ -70,7 +71,7 @@ fn check_rest(
     Through {
         checked: Checked::Fit,
         needed,
-        outside: false,
+        outside,
     }
 }
 
@@ -96,24 +97,16 @@ pub fn check(
     let Checked::Fit = batched else {
         return stopped_test(batched);
     };
-    let d = describe(descriptions, 0);
-    let first = check_described(d, body, indices, index_data, index_validity, true);
-    let formed = first.checked;
-    let needed = first.needed;
-    let Checked::Fit = formed else {
-        return stopped_test(formed);
-    };
-    let rest = check_rest(
+    let through = check_columns(
         columns as usize,
         descriptions,
         body,
         indices,
         index_data,
         index_validity,
-        needed,
     );
-    let counted = rest.checked;
-    let joined = rest.needed;
+    let counted = through.checked;
+    let joined = through.needed;
     let Checked::Fit = counted else {
         return stopped_test(counted);
     };
@@ -125,6 +118,6 @@ pub fn check(
     let spaced = check_space(joined, lent);
     Tested {
         checked: spaced,
-        outside: first.outside,
+        outside: through.outside,
     }
 }

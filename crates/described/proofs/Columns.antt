@@ -1,6 +1,6 @@
 -- What the tests and the writing of one column tell (specs/Told.antt, specs/Taken.antt), by what the stages below answer. Assumes nothing.
 use mathlib.Core.Path.{_≡_, refl, sym, ap, _∙_, subst}
-use mathlib.Core.Bool.{Bool, true, false, false≢true}
+use mathlib.Core.Bool.{Bool, true, false, _&&_, false≢true}
 use mathlib.Core.List.{List}
 use Prim.Native.Nat.{ℕ, suc, _+_, _*_, _^_, _≤_, _<_}
 use native.Mathlib.Omega.{arith}
@@ -90,11 +90,11 @@ module _ (c : Column) (x : IndexColumn) where
         by-overflow = rw (good, range)
 
         pub rest-told : (m : Measured) → measuredNumbers m ≡ measured v → {n : Lengths} → n ≡ found (m .total) → {outside : Bool}
-            → (first ≡ true → outside ≡ someOutside (c .table .rows) x) → RestToldOf first c x (record { checked = m .checked; needed = n; outside = outside })
+            → outside ≡ (first && someOutside (c .table .rows) x) → RestToldOf first c x (record { checked = m .checked; needed = n; outside = outside })
         rest-told m e {n} h {outside} o = go (m .checked) refl
           where
             go : (s : Checked) → m .checked ≡ s
-                → (checkedNumbers (m .checked) ≡ rest) × (m .checked ≡ Fit → (n ≡ neededLengths v) × (first ≡ true → outside ≡ someOutside (c .table .rows) x))
+                → (checkedNumbers (m .checked) ≡ rest) × (m .checked ≡ Fit → (n ≡ neededLengths v) × (outside ≡ (first && someOutside (c .table .rows) x)))
             go Fit f =
                 let t = measured-total v (sym (ap (λ (s : Checked). measuredBy s (m .total)) f) ∙ e) in
                 (ap checkedNumbers f ∙ sym (overflow-accepts v (t .0)) ∙ by-overflow, λ g. (h ∙ needed-told c x (t .1), o))

@@ -2,7 +2,7 @@
 -- range are tested with it.
 use Prim.Native.Nat.{ℕ}
 use mathlib.Core.Path.{_≡_}
-use mathlib.Core.Bool.{Bool, true, false, cond}
+use mathlib.Core.Bool.{Bool, true, false, cond, _&&_}
 use Rattle.tables.specs.declared.refusal.Checked.{Checked}
 use Rattle.tables.specs.declared.refusal.Checked.the-variants.{Fit}
 use Rattle.tables.specs.declared.table.Indices.{Indices}
@@ -41,9 +41,9 @@ testedIndices first x = cond first x (indexDescription 1 0 0)
 abbrev pub testedLengths : Bool → ℕ → ℕ → IndexLengths
 testedLengths first «data» validity = cond first (record { «data» = «data»; validity = validity }) (record { «data» = 0; validity = 0 })
 
--- refusal 5, and of a first column whether some number is that of no row
+-- refusal 5, and whether it is a first column and some number is that of no row
 abbrev pub RangedOf : Bool → ℕ → IndexColumn → Ranged → Type 0
-RangedOf first rows x r = (checkedNumbers (r .checked) ≡ rangeRefusal rows x) × (first ≡ true → r .outside ≡ someOutside rows x)
+RangedOf first rows x r = (checkedNumbers (r .checked) ≡ rangeRefusal rows x) × (r .outside ≡ (first && someOutside rows x))
 
 -- refusals 1 to 3 let pass, and after the first column the range
 pub record SizesPassed (first : Bool) (c : Column) (x : IndexColumn) : Type 0 where
@@ -51,9 +51,9 @@ pub record SizesPassed (first : Bool) (c : Column) (x : IndexColumn) : Type 0 wh
   pub indices : passes (indexRefusal x) ≡ true
   pub range : first ≡ false → passes (rangeRefusal (c .table .rows) x) ≡ true
 
--- where nothing is refused: what the rows need, and of a first column whether some number is that of no row
+-- where nothing is refused: what the rows need, and whether it is a first column and some number is that of no row
 abbrev pub PassedOf : Bool → Column → IndexColumn → Through → Type 0
-PassedOf first c x r = r .checked ≡ Fit → (r .needed ≡ neededLengths (taken c x)) × (first ≡ true → r .outside ≡ someOutside (c .table .rows) x)
+PassedOf first c x r = r .checked ≡ Fit → (r .needed ≡ neededLengths (taken c x)) × (r .outside ≡ (first && someOutside (c .table .rows) x))
 
 -- refusals 4 to 6
 abbrev pub RestToldOf : Bool → Column → IndexColumn → Through → Type 0

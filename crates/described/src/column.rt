@@ -28,8 +28,8 @@ ghost use Rattle.gathers.specs.Buffers.{someOutside};
 ghost use Rattle.described.specs.Told.{stoppedAt, RangedOf, SizesPassed, RestToldOf};
 ghost use Rattle.described.specs.Taken.{takenOf, dataIn, OffsetsIn, HasRoomFor};
 
-// What the tests of a column tell. Where there is no refusal: how many bytes of each output the rows need, and of a first column whether some number of the
-// indices, then one under a null index, is that of no row.
+// What the tests of a column tell. Where there is no refusal: how many bytes of each output the rows need, and whether it is a first column and some number
+// of the indices, then one under a null index, is that of no row.
 pub struct Through {
     pub checked: Checked,
     pub needed: Lengths,

@@ -70,7 +70,7 @@ module _ (c : Column) (x : IndexColumn) where
                 ∙ ap (λ (k : Lengths). firstOf (spaceLines k (lentLengths o))) (through .1 mf .0)
                 ∙ sym (spaceRefusal-lines v o)
                 ∙ rw (by-space c x o, n),
-            λ f. through .1 mf .1 refl,
+            λ f. through .1 mf .1,
           )
 
   -- ---- the gather, by what the tests answer
