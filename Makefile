@@ -1,12 +1,14 @@
-# make demo: builds the archive, compiles the example against it, and runs it. make test: what the gate runs beside the proofs.
+# make demo: builds the archive, compiles the example against it, and runs it. make archive: target/libhoglidra.a alone. make test: what the gate runs beside the proofs.
 # make bench: the archive against the loops of the Rust, timed; make instructions: the same, counted by callgrind.
 # make firmware CORE=armv5te: the archive for a printer's core; make test-firmware: all of them under qemu, with the tools that make firmware-tools installs.
-archive = target/staticlib/libhoglidra.a
+archive = target/libhoglidra.a
 compile = $(CC) -std=c99 -pedantic -Wall -Wextra -Werror -O2 -Iinclude
 
-.PHONY: demo test test-archive test-c test-demo test-rust bench instructions firmware test-firmware firmware-tools
+.PHONY: demo archive test test-archive test-c test-demo test-rust bench instructions firmware test-firmware firmware-tools
 demo: target/ingredients
 	target/ingredients
+
+archive: $(archive)
 
 test: test-archive test-c test-demo test-rust firmware
 
@@ -41,11 +43,11 @@ instructions: $(archive)
 	cd rust && cargo bench --offline -- --instructions
 
 # The archive for a core, or for all. What it is made of and held against: docs/FIRMWARE.md.
-firmware: target/firmware/module.ll
+firmware: target/firmware/words
 	firmware/build.sh $(CORE)
 
-target/firmware/module.ll: $(archive) firmware/build.sh
-	firmware/build.sh module
+target/firmware/words: $(archive) firmware/build.sh firmware/cores.sh
+	firmware/build.sh modules
 
 test-firmware: firmware target/readme.inc
 	firmware/test.sh $(CORE)
@@ -57,8 +59,10 @@ firmware-tools:
 
 $(archive): crates.txt $(shell find crates -name '*.rt' -o -name '*.antt')
 	@mkdir -p target
-	@echo "rt staticlib hoglidra (some minutes, if nothing is proved yet)"
-	@rt staticlib hoglidra > target/staticlib.log 2>&1 || { cat target/staticlib.log; false; }
+	@echo "rt staticlib (some minutes, if nothing is proved yet)"
+	@for name in hoglidra hoglidra_arrays; do rt staticlib $$name > target/staticlib.log 2>&1 || { cat target/staticlib.log; exit 1; }; done
+	@rm -rf target/objects $@ && mkdir target/objects
+	@cd target/objects && ar x ../staticlib/libhoglidra.a && ar x ../staticlib/libhoglidra_arrays.a && ar rcsD ../libhoglidra.a *.o
 
 target/ingredients: examples/ingredients.c include/hoglidra.h $(archive)
 	$(compile) $< $(archive) -o $@

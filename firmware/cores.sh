@@ -2,6 +2,9 @@
 # The cores, a line each, and a reader of a field; for build.sh and test.sh.
 #   core | words for the kit's clang | what the archive may leave undefined | C compiler of the tests | its words | emulator
 # "-aligned" is for memory in which an unaligned access faults, as a Cortex-M7's external memory that no MPU region makes normal.
+# The entries: each has a module, and an object of the archive, of its own, so that the stages of one are inlined into it and not shared with the other.
+# shellcheck disable=SC2034
+entries=(hoglidra hoglidra_arrays)
 cores='
 aarch64           | --target=aarch64-linux-gnu -mcpu=cortex-a53                                         |                               | aarch64-linux-gnu-gcc   | -mcpu=cortex-a53               | qemu-aarch64 -cpu cortex-a53
 armv7             | --target=armv7a-linux-gnueabihf -mfpu=vfpv3-d16                                     |                               | arm-linux-gnueabihf-gcc | -march=armv7-a -mfpu=vfpv3-d16 | qemu-arm -cpu cortex-a7

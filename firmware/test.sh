@@ -32,21 +32,23 @@ check_tools() { # CORE...
 
 # A program for Linux on a core, with its archive.
 compiled() { # CORE WORDS...
-    local core=$1 lib=$out/$1/libhoglidra.a
+    local core=$1 lib=$out/$1/libhoglidra.a name
     shift
     case $core in
-    x86-64) lib=target/staticlib/libhoglidra.a ;;
+    x86-64) lib=target/libhoglidra.a ;;
     cortex-m7*) # Linux on a core with the same instructions: by the object's attributes ld would take the whole program for a Cortex-M's.
-        lib=$out/$core/for-linux.o
-        arm-linux-gnueabi-objcopy --remove-section=.ARM.attributes "$out/$core/hoglidra.o" "$lib" ;;
+        lib=$out/$core/for-linux.a
+        for name in "${entries[@]}"; do arm-linux-gnueabi-objcopy --remove-section=.ARM.attributes "$out/$core/$name.o" "$out/$core/$name-for-linux.o"; done
+        arm-linux-gnueabi-ar rcs "$lib" "$out/$core/"*-for-linux.o ;;
     esac
     # shellcheck disable=SC2046
     "$(field "$core" 4)" $(field "$core" 5) -static "${warnings[@]}" "$@" "$lib"
 }
 
-# Where an object's code lies in a program, as words for count.c.
-range() { # OBJECT PROGRAM
-    { nm --defined-only "$1" | sed -n 's/^[0-9a-f]* [tT] /have /p'; nm -S --defined-only "$2"; } | while read -r at size kind name; do
+# Where the code of the archive's objects lies in a program, as words for count.c.
+range() { # DIRECTORY PROGRAM
+    local objects=("${entries[@]/%/.o}")
+    { nm --defined-only "${objects[@]/#/$1/}" | sed -n 's/^[0-9a-f]* [tT] /have /p'; nm -S --defined-only "$2"; } | while read -r at size kind name; do
         [ "$at" != have ] || { echo "have ${size}${kind:+ $kind}${name:+ $name}"; continue; }
         case $kind in t | T) echo "$((16#$at)) $((16#$size)) $name" ;; esac
     done | awk '$1 == "have" { have[substr($0, 6)] = 1; next } { n = $0; sub(/^[0-9]+ [0-9]+ /, "", n) }
@@ -64,7 +66,7 @@ run_core() { # CORE
     compiled "$1" firmware/everyday.c -o "$dir/everyday"
     # shellcheck disable=SC2086
     {
-        $run -plugin "$out/count.so,$(range "$dir/hoglidra.o" "$dir/cases")" "$dir/cases" crates/vectors/data/*.txt >"$dir/cases.stdout" 2>"$dir/cases.count" ||
+        $run -plugin "$out/count.so,$(range "$dir" "$dir/cases")" "$dir/cases" crates/vectors/data/*.txt >"$dir/cases.stdout" 2>"$dir/cases.count" ||
             { tail -n 1 "$dir/cases.stdout"; fail "$1" "the cases"; }
         $run "$dir/readme" >/dev/null || fail "$1" "the README's examples"
         $run "$dir/stack" >"$dir/stack.stdout" || { cat "$dir/stack.stdout"; fail "$1" "the stack, of which the header promises less"; }
@@ -122,7 +124,7 @@ tables() { # CORE...
     echo "| core | code and constants | stack, \`take\` | stack, \`take_arrays\` | all frames | left undefined | unaligned accesses |$(printf ' %.6s |' "${of_each_kind[@]}") all in one call |"
     echo "|---|---|---|---|---|---|---|$(printf -- '---|%.0s' "${of_each_kind[@]}" "$in_one_call")"
     for core; do
-        echo "| $core | $(cat "$out/$core/code") | $(stack_of "$core" hoglidra_take) | $(stack_of "$core" hoglidra_take_arrays) | $(cat "$out/$core/frames")" \
+        echo "| $core | $(paste -sd "+" "$out/$core/code" | sed "s/+/ + /") | $(stack_of "$core" hoglidra_take) | $(stack_of "$core" hoglidra_take_arrays) | $(cat "$out/$core/frames")" \
             "| $(sed 's/.*/`&`/' "$out/$core/undefined" | paste -sd ' ' | grep . || echo none) | $(sed 's/^0$/none/; s/^[1-9].*/yes/' "$out/$core/unaligned") |$(for name in "${of_each_kind[@]}" "$in_one_call"; do grep -F "$name, 10 % null|" "$out/$core/counts" | sed 's/.*|\(.*\)/ \1 |/'; done | tr -d '\n')"
     done
     echo

@@ -1,17 +1,17 @@
-//! Links libhoglidra.a from `HOGLIDRA_LIB_DIR`, or from where `rt staticlib` leaves it.
+//! Links libhoglidra.a from `HOGLIDRA_LIB_DIR`, or from where `make archive` leaves it.
 
 use std::env;
 use std::path::Path;
 
 fn main() {
     println!("cargo::rerun-if-env-changed=HOGLIDRA_LIB_DIR");
-    let chosen = env::var_os("HOGLIDRA_LIB_DIR").unwrap_or_else(|| "../target/staticlib".into());
+    let chosen = env::var_os("HOGLIDRA_LIB_DIR").unwrap_or_else(|| "../target".into());
     let directory = Path::new(env!("CARGO_MANIFEST_DIR")).join(chosen);
     let archive = directory.join("libhoglidra.a");
     println!("cargo::rerun-if-changed={}", archive.display());
     if !archive.is_file() {
         println!(
-            "cargo::error=no {}: `rt staticlib hoglidra` at the repository's root makes it",
+            "cargo::error=no {}: `make archive` at the repository's root makes it",
             archive.display()
         );
         return;

@@ -1,6 +1,6 @@
 // What the printer's C firmware calls to gather a column: numbers and byte slices, each slice a pointer and a length. The number is returned, and the four
 // numbers are written into the lent answer, refusals included; an answer slice of fewer than 32 bytes gets 7 before every other test, and nothing is written.
-use crate::answer::write_answer;
+use answers::answer::write_answer;
 use entries::answer::answered_numbers;
 use entries::take::take;
 use tables::table::Indices;
@@ -9,7 +9,7 @@ ghost use Rattle.tables.specs.Columns.{columnAt, indexColumnAt, description, in
 ghost use Rattle.gathers.specs.Stored.{outputAt};
 ghost use Rattle.gathers.specs.Gather.{gather};
 ghost use Rattle.entries.specs.Entry.{Gathers};
-ghost use Rattle.hoglidra.specs.Exported.{left, exported};
+ghost use Rattle.answers.specs.Exported.{left, exported};
 
 #[no_mangle]
 pub extern "C" fn hoglidra_take(

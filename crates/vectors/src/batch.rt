@@ -9,7 +9,7 @@ use crate::text::is_text;
 use crate::text::number;
 use crate::text::part;
 use bits::number::write_u64;
-use hoglidra::batch::hoglidra_take_arrays;
+use hoglidra_arrays::export::hoglidra_take_arrays;
 ghost use Prim.Native.Nat.{_≤_};
 
 // The most bytes that the descriptions have: 33 records, one more than a call may have.

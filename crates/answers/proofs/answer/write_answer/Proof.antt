@@ -1,8 +1,8 @@
--- `hoglidra::answer::write_answer` meets its contract: four numbers, one after the other. Assumes nothing.
+-- `answers::answer::write_answer` meets its contract: four numbers, one after the other. Assumes nothing.
 use borrow.Author.Needs.{needs}
-use Rattle.hoglidra.proofs.Answers.{answer-written}
-use Rattle.hoglidra.proofs.answer.write_answer.Statement.{statement}
-use Rattle.hoglidra.proofs.answer.write_answer.Tie as tie
+use Rattle.answers.proofs.Answers.{answer-written}
+use Rattle.answers.proofs.answer.write_answer.Statement.{statement}
+use Rattle.answers.proofs.answer.write_answer.Tie as tie
 
 write-u64-requires : tie.Need-write-u64-requires
 write-u64-requires c κs = search needs

@@ -5,7 +5,7 @@ ghost use mathlib.Core.Path.{_≡_};
 ghost use Prim.Native.Nat.{_≤_};
 ghost use lib.ListN.{length};
 ghost use Rattle.bits.specs.Bytes.{overwrite};
-ghost use Rattle.hoglidra.specs.Exported.{answerBytes};
+ghost use Rattle.answers.specs.Exported.{answerBytes};
 
 // Writes the four numbers, eight bytes each, over the first 32 bytes.
 pub fn write_answer(answer: Answer, out: &mut [u8])

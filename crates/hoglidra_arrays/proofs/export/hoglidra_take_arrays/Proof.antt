@@ -1,11 +1,11 @@
--- `hoglidra::batch::hoglidra_take_arrays` meets its contract: a short answer slice stops it at once, else it is what `take_arrays` leaves. Assumes nothing.
+-- `hoglidra_arrays::export::hoglidra_take_arrays` meets its contract: a short answer slice stops it at once, else it is what `take_arrays` leaves. Assumes nothing.
 use borrow.Author.Needs.{needs}
-use Rattle.hoglidra.proofs.Exports.{short-answer-arrays, long-answer-arrays}
-use Rattle.hoglidra.proofs.batch.hoglidra_take_arrays.Statement.{statement}
-use Rattle.hoglidra.proofs.batch.hoglidra_take_arrays.Tie as tie
+use Rattle.hoglidra_arrays.proofs.Exports.{short-answer, long-answer}
+use Rattle.hoglidra_arrays.proofs.export.hoglidra_take_arrays.Statement.{statement}
+use Rattle.hoglidra_arrays.proofs.export.hoglidra_take_arrays.Tie as tie
 
 returns : tie.Need-returns
-returns c = short-answer-arrays _ _ _ _ (c .if1 .taken)
+returns c = short-answer _ _ _ _ (c .if1 .taken)
 
 take-arrays-requires : tie.Need-take-arrays-requires
 take-arrays-requires c κs = search needs
@@ -29,7 +29,7 @@ same-length-4 : tie.Need-same-length-4
 same-length-4 c = search needs
 
 returns-2 : tie.Need-returns-2
-returns-2 c = long-answer-arrays _ _ _ _ (c .before .before .before .before .before .before .before .before .before .before .before .before .before .before .before .if1 .left) (c .before .before .before .before .before .before .before .before .before .before .before .take-arrays .ensures) (c .before .before .before .before .answered-numbers .ensures) (c .before .before .write-answer .ensures)
+returns-2 c = long-answer _ _ _ _ (c .before .before .before .before .before .before .before .before .before .before .before .before .before .before .before .if1 .left) (c .before .before .before .before .before .before .before .before .before .before .before .take-arrays .ensures) (c .before .before .before .before .answered-numbers .ensures) (c .before .before .write-answer .ensures)
 
 pub hoglidra-take-arrays-spec : {M : Type 1} → statement M
 hoglidra-take-arrays-spec =

@@ -1,5 +1,5 @@
 // What C calls to gather several columns at once: their records and the one slice that holds their buffers, else as for one column.
-use crate::answer::write_answer;
+use answers::answer::write_answer;
 use arrays::take::take_arrays;
 use entries::answer::answered_numbers;
 use tables::table::Indices;
@@ -7,7 +7,7 @@ ghost use Rattle.tables.specs.Columns.{indexColumnAt, indexDescription};
 ghost use Rattle.gathers.specs.Stored.{outputAt};
 ghost use Rattle.batches.specs.Batch.{batchAt, gatherArrays};
 ghost use Rattle.arrays.specs.Entry.{GathersArrays};
-ghost use Rattle.hoglidra.specs.Exported.{left, exported};
+ghost use Rattle.answers.specs.Exported.{left, exported};
 
 #[no_mangle]
 pub extern "C" fn hoglidra_take_arrays(

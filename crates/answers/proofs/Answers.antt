@@ -9,7 +9,7 @@ use Rattle.bits.specs.Routines.{overwriteAt}
 use Rattle.bits.specs.Numbers.{toLittleEndian}
 use Rattle.bits.proofs.Bytes.{overwrite-tail}
 use Rattle.tables.specs.declared.refusal.Answer.{Answer}
-use Rattle.hoglidra.specs.Exported.{answerBytes}
+use Rattle.answers.specs.Exported.{answerBytes}
 
 -- blocks of 8 bytes
 blocks-written : (a b c d s : List ℕ) {s₁ s₂ s₃ s₄ : List ℕ} → length a ≡ 8 → length b ≡ 8 → length c ≡ 8
