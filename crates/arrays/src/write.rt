@@ -1,5 +1,4 @@
 // The rows of every column, written one after the other: the tail of each lent output is lent on, from where the columns before end.
-use described::column::Taken;
 use described::in_body::take_described;
 use descriptions::record::describe;
 use tables::table::Indices;

@@ -87,8 +87,7 @@ fn check_range(
     Ranged { checked, outside }
 }
 
-// The tests that are left after refusals 1 to 3, through overflow. They stand in a function of their own, as the writing does, so that a gather of one column
-// and one of several share two calls and not one for each stage.
+// The tests that are left after refusals 1 to 3, through overflow. The first column is tested for the range of the indices, a later one has as many rows.
 pub fn check_column(
     table: Table,
     data: &[u8],

@@ -1,3 +1,3 @@
-// The stages of a gather over a column that lies in a body (layer 6): the tests, what the outputs need, and the writing.
-pub mod column; // column.rt: what a column's outputs need, and its writing, of buffers that are lent by themselves
-pub mod in_body; // in_body.rt: the stages over a description and the body that it speaks of
+// One column of those that are gathered (layer 6): its tests through overflow, and its writing. A gather of one column and one of several go through it.
+pub mod column; // column.rt: a column whose buffers are lent by themselves
+pub mod in_body; // in_body.rt: a column that a record describes, whose buffers lie in a body
