@@ -1,4 +1,4 @@
--- Several columns gathered by one index column, or none: the paper's whole sheet in one call.
+-- Several columns gathered by one index column: all of them are written, or a refusal is told and nothing is.
 use Prim.Native.Nat.{ℕ, _*_}
 use mathlib.Core.Bool.{Bool, false, cond, not, _||_}
 use mathlib.Core.List.{List, [], _∷_, _++_}

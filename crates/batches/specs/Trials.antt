@@ -116,6 +116,6 @@ expectedClear c = c .becomes
 unfoldable pub clearings : List Clearing
 clearings =
     record { column = P; becomes = col 1 1 0 0 4 (10 ∷ 0 ∷ 0 ∷ 40 ∷ []) [] (0x09 ∷ []) }
-    -- a malformed neighbour is left as it is
+    -- refused by itself, for its offsets: not blanked
     ∷ record { column = unfit; becomes = unfit }
     ∷ []
