@@ -76,7 +76,7 @@ unportable() { # MODULE
     sed -n '/^define /,/^}/p' "$1" | sed -e 's/;.*//' -e 's/[@%]"[^"]*"//g' -e 's/[@%!][A-Za-z0-9_.]*//g' -e 's/^[a-z]*\(\.[0-9]*\)\{0,1\}:.*//' |
         grep -oE '[A-Za-z_][A-Za-z0-9_]*|[^][A-Za-z0-9_ #(),.:={}-]' | sort -u | grep -vxF "$(printf '%s\n' "${same[@]}")" || true
     grep -E '^@' "$1" || true
-    grep -E '^declare ' "$1" | grep -vE '@llvm\.(memmove\.p0\.p0\.i64|ctpop\.i64|cttz\.i64|trap)\(' || true
+    grep -E '^declare ' "$1" | grep -vE '@llvm\.(memmove\.p0\.p0\.i64|memset\.p0\.i64|ctpop\.i64|cttz\.i64|trap)\(' || true
     grep -E '^define ' "$1" | grep -v '^define internal ' | sed 's/ %[a-z0-9]*//g' | grep -vE '^define noundef i64 @[a-z_]+\(((i64|ptr) noundef(, )?)*\) #0 \{$' || true
     # a cycle of calls, which would leave the stack without a bound
     awk '/^define /{ match($0, /@("[^"]*"|[A-Za-z0-9_.]+)/); f = substr($0, RSTART + 1, RLENGTH - 1); gsub(/[" ]/, "", f) }

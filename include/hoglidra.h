@@ -60,8 +60,8 @@ struct hoglidra_answer {
      out_data         kind 1: count * width; 2: (count + 7) / 8; 5: count * size * width; 6: count * size;
                       kinds 3 and 4: the lengths of the valid rows that are taken; a call with less room answers HOGLIDRA_SPACE, and `total` says how much it is
 
-   What lies under a null row of the output: nothing in kinds 3 and 4. In the others, the bytes or the bit of the null row that a valid index names. Under a null
-   index, zeros; but in kind 1, and in kind 6 of size 1, 2, 4, 8 or 16, the bytes of the row whose number stands under it, if there is such a row.
+   What lies under a null row of the output: zero bytes in kinds 1, 5 and 6, a zero bit in kind 2, nothing in kinds 3 and 4; whether its index is null, over whatever
+   number, or the row that it names. So neither a number under a null index nor the bytes under a null row of the source can be told from the output.
 
    What the caller owes: each slice is a pointer and a length in bytes, and the pointer may be NULL only if the length is 0; the three outputs and the answer
    overlap nothing else. Nothing else is asked: every number, length and content is allowed, and what does not fit is refused before an output byte changes.

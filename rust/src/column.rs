@@ -87,7 +87,7 @@ pub struct Bitmap<'a> {
 /// let gathered = take(&booleans, &Indices::from_u8(&[1, 2, 0]), &mut output)?;
 /// assert_eq!(gathered.nulls, 1);
 /// assert_eq!(validity, [0b101]);
-/// assert_eq!(data, [0b110]); // The bit under the null row is copied with it.
+/// assert_eq!(data, [0b100]); // The null row is a bit of 0, though the column has a 1 below it.
 /// # Ok::<(), hoglidra::Refusal>(())
 /// ```
 #[derive(Clone, Copy, Debug, PartialEq, Eq)]

@@ -32,7 +32,8 @@ pub struct Indices<'a> {
     pub count: usize,
     /// The row numbers, `count * width` bytes, at most 16,777,216.
     pub data: &'a [u8],
-    /// Which indices are valid; without it, all. The number under a null is never out of range.
+    /// Which indices are valid; without it, all. The number under a null one names no row, and is
+    /// never out of range.
     pub validity: Option<Bitmap<'a>>,
 }
 

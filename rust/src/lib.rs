@@ -3,9 +3,10 @@
 //! It is `take` of arrow-select with `check_bounds`, ported to Rattle, proved, and called here as a
 //! static archive. Three things hold for all input: [`take`] returns, and what does not fit is
 //! refused with no output byte changed; the result is the one that the Arrow Columnar Format
-//! defines; and rows of a well-formed column that no index reaches leave no trace in the answer or
-//! in any output byte. They hold of [`take_arrays`] too, which gathers up to 32 columns in one call,
-//! all of them or none.
+//! defines, with zeros below every null row; and rows of a well-formed column that no valid index
+//! names, what lies below its null rows, and numbers under null indices leave no trace in the answer
+//! or in any output byte. They hold of [`take_arrays`] too, which gathers up to 32 columns in one
+//! call, all of them or none.
 //!
 //! A null index gives a null row. A valid index that names no row refuses the whole gather.
 //!
@@ -59,13 +60,38 @@ struct Readme;
 
 /// Gathers into `output` the rows of `column` that `indices` name, in their order.
 ///
-/// An output row is null if its index is null or the row that it names is null. Null rows of
-/// variable bytes and of lists are empty. The other kinds copy what lies under a null row; under a
-/// null index they write zeros, save in primitive columns and in fixed-size binary ones of size 1,
-/// 2, 4, 8 or 16, where the number under the null is followed if there is such a row.
+/// An output row is null if its index is null or the row that it names is null. Every null row is
+/// zeros; of a boolean column it is a bit of 0, and of variable bytes and lists it is empty.
 ///
 /// # Errors
 /// The first [`Refusal`] that is met, in the order of its cases.
+///
+/// ```
+/// use hoglidra::{take, Bitmap, Column, Indices, Kind, Output};
+///
+/// // 10, 20, and null over 30
+/// let column = Column {
+///     kind: Kind::Primitive { width: 1 },
+///     rows: 3,
+///     data: &[10, 20, 30],
+///     offsets: &[],
+///     validity: Some(Bitmap { bytes: &[0b011], bit_offset: 0 }),
+/// };
+/// // 1, 2, null over 0, null over 7
+/// let indices = Indices {
+///     width: 2,
+///     count: 4,
+///     data: &[1, 0, 2, 0, 0, 0, 7, 0],
+///     validity: Some(Bitmap { bytes: &[0b0011], bit_offset: 0 }),
+/// };
+/// let (mut validity, mut data) = ([0xAA; 1], [0xAA; 4]);
+/// let mut output = Output { validity: &mut validity, offsets: &mut [], data: &mut data };
+/// let gathered = take(&column, &indices, &mut output)?;
+/// assert_eq!(gathered.nulls, 3);
+/// assert_eq!(validity, [0b0001]);
+/// assert_eq!(data, [20, 0, 0, 0]);
+/// # Ok::<(), hoglidra::Refusal>(())
+/// ```
 pub fn take(column: &Column, indices: &Indices, output: &mut Output) -> Result<Gathered, Refusal> {
     let mut answer = [0; 32];
     raw::take(&raw::Call::new(column, indices), output, &mut answer);

@@ -43,7 +43,8 @@ pub struct Output<'a> {
     pub validity: &'a mut [u8],
     /// One offset more than rows, the first 0. Untouched unless the kind has an offset width.
     pub offsets: &'a mut [u8],
-    /// The values of the rows, one after another.
+    /// The values of the rows, one after another. A null row is zeros, or a bit of 0; it is empty if
+    /// the kind has an offset width.
     pub data: &'a mut [u8],
 }
 

@@ -1,8 +1,10 @@
 /* Runs the cases of the text files that are named, which crates/vectors runs too, through the archive as a C caller sees it; then the paper's trial 10, cases that
    are made here, and an answer slice that is too short. Each buffer is allocated at its length, so that valgrind sees a byte read or written past it; outputs are
    lent with just the room needed and with more, and filled, so that a byte changed by a refusal shows. A case that passes refusals 1 to 3 is run once more with
-   only the needed bytes of its source and index buffers there, so that valgrind sees a read of any other. A batch that is gathered is held against as many calls
-   for a column each, and is run with a byte less than it needs of each output. Prints a line for each file; exits with 1 at the first difference. */
+   only the needed bytes of its source and index buffers there, so that valgrind sees a read of any other. A case of one column that is gathered is also run with
+   other bytes below its nulls, none of which may show. A batch that is gathered is held against as many calls for a column each, and is run with a byte less than
+   it needs of each output. The answers of take-kernels.txt are published ones, which the file keeps byte for byte; it is known by its name, and they are compared
+   with zeros below nulls. Prints a line for each file; exits with 1 at the first difference. */
 #include "hoglidra.h"
 #include <stdio.h>
 #include <stdlib.h>
@@ -189,12 +191,30 @@ static int has_offsets(const struct gather *g) {
     return g->numbers[KIND] == HOGLIDRA_BYTES || g->numbers[KIND] == HOGLIDRA_LIST;
 }
 
+/* Number i of a buffer. */
+static uint64_t get(const struct buffer *b, uint64_t i, uint64_t width) {
+    uint64_t n = 0;
+    for (uint64_t k = width; k > 0; k--) n = n << 8 | b->at[i * width + k - 1];
+    return n;
+}
+
+static void put(uint8_t *at, uint64_t n, uint64_t width) {
+    for (uint64_t i = 0; i < width; i++) at[i] = (uint8_t)(n >> 8 * i);
+}
+
+static int is_valid(const struct buffer *validity, uint64_t bit, uint64_t i) {
+    return !validity->len || (validity->at[(bit + i) / 8] >> (bit + i) % 8 & 1);
+}
+
+/* How many bytes a row takes in the data where all take as many, null or not. */
+static uint64_t row_len(const struct gather *g) {
+    const uint64_t *n = g->numbers;
+    return n[KIND] == HOGLIDRA_PRIMITIVE ? n[WIDTH] : n[KIND] == HOGLIDRA_FIXED_SIZE_LIST ? n[SIZE] * n[WIDTH] : n[SIZE];
+}
+
 /* The last offset, in entries: the data is needed up to it. Where the offsets are refused no data is needed. */
 static uint64_t last_offset(const struct gather *g) {
-    uint64_t width = g->numbers[OFFSET_WIDTH], last = 0;
-    if (has_offsets(g) && g->answer[0] != HOGLIDRA_OFFSETS)
-        for (uint64_t i = width; i > 0; i--) last = last << 8 | g->in[OFFSETS].at[g->numbers[ROWS] * width + i - 1];
-    return last;
+    return has_offsets(g) && g->answer[0] != HOGLIDRA_OFFSETS ? get(&g->in[OFFSETS], g->numbers[ROWS], g->numbers[OFFSET_WIDTH]) : 0;
 }
 
 /* How many bytes of each source and index buffer are needed, by the paper; of a buffer that the kind does not use, and of an absent validity, none. */
@@ -229,9 +249,56 @@ static void run_needed(const struct gather *g) {
     for (int i = 0; i < INPUTS; i++) free(cut.in[i].at);
 }
 
+/* Puts zeros below the null rows of what is gathered, and says whether anything else was there. A null row of variable length has no bytes: one that has some is a
+   difference. */
+static int zero_nulls(const struct gather *g) {
+    const struct buffer *data = &g->out[OUT_DATA];
+    const uint64_t count = g->numbers[COUNT], width = g->numbers[OFFSET_WIDTH], len = row_len(g), bytes = (count + 7) / 8;
+    int other = 0;
+    if (g->out[OUT_VALIDITY].len != bytes) fail("the validity has another length");
+    if (has_offsets(g) && g->out[OUT_OFFSETS].len != (count + 1) * width) fail("the offsets have another length");
+    if (!has_offsets(g) && data->len != (g->numbers[KIND] == HOGLIDRA_BOOLEAN ? bytes : count * len)) fail("the data has another length");
+    for (uint64_t j = 0; j < count; j++) {
+        if (is_valid(&g->out[OUT_VALIDITY], 0, j)) continue;
+        if (has_offsets(g)) {
+            if (get(&g->out[OUT_OFFSETS], j, width) != get(&g->out[OUT_OFFSETS], j + 1, width)) fail("a null row has bytes");
+        } else if (g->numbers[KIND] == HOGLIDRA_BOOLEAN) {
+            other |= data->at[j / 8] & 1 << j % 8;
+            data->at[j / 8] &= (uint8_t)~(1 << j % 8);
+        } else {
+            for (uint64_t k = j * len; k < (j + 1) * len; k++) other |= data->at[k], data->at[k] = 0;
+        }
+    }
+    return other != 0;
+}
+
+/* Changes every byte, or bit, below a null row of the column. */
+static void change_rows(const struct gather *g) {
+    const uint64_t *n = g->numbers, unit = n[KIND] == HOGLIDRA_LIST ? n[WIDTH] : 1;
+    for (uint64_t r = 0; r < n[ROWS]; r++) {
+        uint64_t from = r * row_len(g), to = from + row_len(g);
+        if (is_valid(&g->in[VALIDITY], n[VALIDITY_BIT], r)) continue;
+        if (n[KIND] == HOGLIDRA_BOOLEAN) {
+            g->in[DATA].at[(n[DATA_BIT] + r) / 8] ^= (uint8_t)(1 << (n[DATA_BIT] + r) % 8);
+            continue;
+        }
+        if (has_offsets(g)) from = get(&g->in[OFFSETS], r, n[OFFSET_WIDTH]) * unit, to = get(&g->in[OFFSETS], r + 1, n[OFFSET_WIDTH]) * unit;
+        for (uint64_t k = from; k < to; k++) g->in[DATA].at[k] ^= 0xFF;
+    }
+}
+
+/* Puts another number below every null index: by turns that of a row, which some index may name too, and the largest, which names none. */
+static void change_indices(const struct gather *g) {
+    const uint64_t *n = g->numbers;
+    for (uint64_t j = 0; j < n[COUNT]; j++)
+        if (!is_valid(&g->in[INDEX_VALIDITY], n[INDEX_VALIDITY_BIT], j))
+            put(g->in[INDEX_DATA].at + j * n[INDEX_WIDTH], j % 2 && n[ROWS] ? j % n[ROWS] : UINT64_MAX, n[INDEX_WIDTH]);
+}
+
 static void run_all(const struct gather *g) {
     run(g, 0), run(g, MORE);
     if (g->answer[0] == HOGLIDRA_GATHERED || g->answer[0] >= HOGLIDRA_OFFSETS) run_needed(g);
+    if (g->answer[0] == HOGLIDRA_GATHERED) change_rows(g), change_indices(g), run(g, 0);
 }
 
 /* Space that is short by a byte at each place: with what the other outputs need, and with nothing after it, since 7 goes by place. */
@@ -362,20 +429,41 @@ static void run_line(char *line) {
     else if (first) read_gather(first, &g), run_all(&g), free_gather(&g);
 }
 
+/* A published answer, which has what the Rust leaves below nulls: zeros are compared there, and nothing else is changed. Counts by kind the answers that had other
+   bytes. */
+static void run_published_line(char *line, int zeroed[]) {
+    const char *first = strtok(line, " \n");
+    struct gather g;
+    if (!first) fail("not a case");
+    read_gather(first, &g);
+    if (g.numbers[KIND] < HOGLIDRA_PRIMITIVE || g.numbers[KIND] > HOGLIDRA_FIXED_SIZE_BINARY) fail("not a case");
+    if (g.answer[0] == HOGLIDRA_GATHERED) zeroed[g.numbers[KIND]] += zero_nulls(&g);
+    run_all(&g);
+    free_gather(&g);
+}
+
+static int is_published(const char *path) {
+    const char *slash = strrchr(path, '/');
+    return !strcmp(slash ? slash + 1 : path, "take-kernels.txt");
+}
+
 static void run_file(const char *path) {
     char line[LINE];
-    int cases = 0;
+    int cases = 0, published = is_published(path), zeroed[HOGLIDRA_FIXED_SIZE_BINARY + 1] = { 0 };
     where = path, line_number = 0;
     FILE *file = fopen(path, "r");
     if (!file) fail("cannot be read");
     while (fgets(line, sizeof line, file)) {
         line_number++;
         if (line[0] == '#' || line[0] == '\n') continue;
-        run_line(line);
+        if (published) run_published_line(line, zeroed);
+        else run_line(line);
         cases++;
     }
     fclose(file);
     printf("%s: %d cases\n", path, cases);
+    if (published) printf("%s: zeros in place of bytes below nulls, in answers of kinds 1, 2, 5 and 6: %d, %d, %d, %d\n", path,
+        zeroed[HOGLIDRA_PRIMITIVE], zeroed[HOGLIDRA_BOOLEAN], zeroed[HOGLIDRA_FIXED_SIZE_LIST], zeroed[HOGLIDRA_FIXED_SIZE_BINARY]);
 }
 
 static struct buffer lend(size_t len) {
@@ -466,10 +554,6 @@ static uint64_t bit_offset(void) {
     return below(2) ? 0 : below(8);
 }
 
-static void put(uint8_t *at, uint64_t n, uint64_t width) {
-    for (uint64_t i = 0; i < width; i++) at[i] = (uint8_t)(n >> 8 * i);
-}
-
 /* Offsets of rows of few entries, the last of them so many; the first offset may exceed 0. */
 static void make_offsets(struct gather *g, uint64_t last) {
     uint64_t rows = g->numbers[ROWS], width = g->numbers[OFFSET_WIDTH], at = below(3);
@@ -517,13 +601,26 @@ static void run_made(struct gather *g) {
     run_needed(g);
 }
 
-/* Gathers a made case without room for the data, if there is any, and then with it. */
+/* What is gathered is null where the index is, or the row that it names; and every null row is zeros, or has no bytes where rows have lengths of their own. */
+static void check_nulls(const struct gather *g) {
+    const uint64_t *n = g->numbers;
+    for (uint64_t j = 0; j < n[COUNT]; j++) {
+        int valid = is_valid(&g->in[INDEX_VALIDITY], n[INDEX_VALIDITY_BIT], j)
+            && is_valid(&g->in[VALIDITY], n[VALIDITY_BIT], get(&g->in[INDEX_DATA], j, n[INDEX_WIDTH]));
+        if (is_valid(&g->out[OUT_VALIDITY], 0, j) != valid) fail("the validity differs");
+    }
+    if (zero_nulls(g)) fail("a null row is not zeros");
+}
+
+/* Gathers a made case without room for the data, if there is any, and then with it; and once more with other bytes below its nulls. */
 static void gather_made(struct gather *g) {
     uint64_t count = g->numbers[COUNT];
     g->out[OUT_VALIDITY] = lend((count + 7) / 8), g->out[OUT_OFFSETS] = lend(has_offsets(g) ? (count + 1) * g->numbers[OFFSET_WIDTH] : 0);
     run_made(g);
     if (g->answer[0] == HOGLIDRA_SPACE) g->out[OUT_DATA] = lend(g->answer[2]), run_made(g);
     if (g->answer[0] != HOGLIDRA_GATHERED) fail("it is refused");
+    check_nulls(g);
+    change_rows(g), change_indices(g), run(g, 0);
 }
 
 static const uint64_t widths[] = { 1, 2, 4, 8, 16, 32 }, sizes[] = { 0, 1, 2, 3, 4, 7, 8, 12, 15, 16, 17, 31, 32, 33, 64, 100 }, row_counts[] = { 0, 1, 2, 9 };
@@ -550,8 +647,8 @@ static uint64_t append(struct buffer *to, const struct buffer *from) {
     return start;
 }
 
-/* A batch of made columns and what they give by themselves. Their buffers lie in the body in random order, with bytes between them; buffers that are absent, and
-   offsets that are not used, are said to lie anywhere. */
+/* A batch of made columns and what they give by themselves, also with other bytes below nulls. Their buffers lie in the body in random order, with bytes between
+   them; buffers that are absent, and offsets that are not used, are said to lie anywhere. */
 static void run_made_batch(uint64_t columns, uint64_t rows, uint64_t index_width) {
     struct gather made[MAX];
     struct hoglidra_column records[MAX];
@@ -587,6 +684,11 @@ static void run_made_batch(uint64_t columns, uint64_t rows, uint64_t index_width
     }
     memcpy(b.numbers, made[0].numbers, sizeof b.numbers), memcpy(b.in, made[0].in, sizeof b.in);
     run_whole_batch(&b);
+    for (uint64_t k = 0; k < columns; k++) {
+        const struct gather g = column_of(&b, k);
+        change_rows(&g), change_indices(&g);
+    }
+    run_batch(&b, 0, 0);
     for (uint64_t k = columns; k-- > 0;) {
         for (int i = INDEX_DATA; k && i < INPUTS; i++) made[k].in[i].at = NULL;
         free_gather(&made[k]);

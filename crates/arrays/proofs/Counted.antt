@@ -1,15 +1,14 @@
 -- The tests of a batch's columns one after the other: what holds after i of them, the step, and the end. Assumes nothing.
 use mathlib.Core.Path.{_≡_, refl, sym, ap, _∙_, subst}
-use mathlib.Core.Bool.{Bool, true, false, not, _&&_, _||_, true≢false}
+use mathlib.Core.Bool.{true, false, true≢false}
 use mathlib.Core.List.{List}
 use Prim.Native.Nat.{ℕ, zero, suc, _+_, _*_, _≤_, _<_}
 use native.Mathlib.Nat.{not-suc-le-zero, mul-le-mul-right}
 use native.Mathlib.Numerals.{add-one}
 use native.Mathlib.Omega.{arith}
 use lib.ListN.{length}
-use borrow.Author.Tests.{ltb-false, eqb-true, eq-eqb, ne-eqb}
+use borrow.Author.Tests.{ltb-false, eq-eqb}
 use lib.Dec.{eqb}
-use Rattle.bits.proofs.Tests.{or-none}
 use Rattle.bits.specs.Sequences.{sum}
 use Rattle.tables.specs.declared.refusal.Checked.{Checked}
 use Rattle.tables.specs.declared.refusal.Checked.the-variants.{Fit, Unfit}
@@ -25,7 +24,6 @@ use Rattle.tables.specs.Rows.{Rows}
 use Rattle.gathers.specs.Stored.{neededLengths, joinedLengths}
 use Rattle.gathers.specs.Gather.{throughLines}
 use Rattle.gathers.specs.Ready.{InRange}
-use Rattle.gathers.specs.Buffers.{someOutside}
 use Rattle.batches.specs.Batch.{Batch, batchIn, takenFrom, batchLines}
 use Rattle.described.specs.declared.column.Through.{Through}
 use Rattle.arrays.specs.Told.{AllToldOf}
@@ -35,18 +33,17 @@ use Rattle.tables.proofs.Lines.{none-met-passes, none-met-accepts, lines-pass, 
 use Rattle.gathers.proofs.Stages.{through-refusing}
 use Rattle.gathers.proofs.Joining.{needed-small}
 use Rattle.batches.proofs.Refused.{columns-refusing}
-use Rattle.batches.proofs.Passed.{some-columns, few-columns, all-described, rows-equal, column-ready}
+use Rattle.batches.proofs.Passed.{few-columns, all-described, rows-equal, column-ready}
 use Rattle.described.specs.Told.{ToldOf}
 use Rattle.described.proofs.Columns.{lets-pass, refuses, not-fit}
 
--- the first i columns pass through overflow, and these are the lengths that they need together. The first tells whether some number is outside
-pub record Counted (b : Batch) (x : IndexColumn) (i validity offsets «data» : ℕ) (outside : Bool) : Type 0 where
+-- the first i columns pass through overflow, and these are the lengths that they need together
+pub record Counted (b : Batch) (x : IndexColumn) (i validity offsets «data» : ℕ) : Type 0 where
   pub inside : i ≤ b .count
   pub passed : (k : ℕ) → k < i → passes (firstOf (throughLines (b .column k) x)) ≡ true
   pub of-validity : validity ≡ sum i (λ k. neededLengths (takenFrom b x k) .validity)
   pub of-offsets : offsets ≡ sum i (λ k. neededLengths (takenFrom b x k) .offsets)
   pub of-data : «data» ≡ sum i (λ k. neededLengths (takenFrom b x k) .«data»)
-  pub of-outside : outside ≡ (not (eqb i 0) && someOutside (b .column 0 .table .rows) x)
 
 -- a number that is not 0
 positive : {i : ℕ} → eqb i 0 ≡ false → 0 < i
@@ -60,29 +57,25 @@ module _ (b : Batch) (x : IndexColumn) where
   abbrev need : ℕ → Lengths
   need k = neededLengths (takenFrom b x k)
 
-  abbrev first-outside : Bool
-  first-outside = someOutside (b .column 0 .table .rows) x
-
-  pub counted-start : Counted b x 0 0 0 0 false
+  pub counted-start : Counted b x 0 0 0 0
   counted-start = record {
     inside = omega arith;
     passed = λ k h. absurd (not-suc-le-zero h);
     of-validity = refl;
     of-offsets = refl;
     of-data = refl;
-    of-outside = refl;
   }
 
   -- ---- one column more
 
-  module _ {i validity offsets «data» : ℕ} {outside : Bool} (c : Counted b x i validity offsets «data» outside) (h : i < b .count) where
+  module _ {i validity offsets «data» : ℕ} (c : Counted b x i validity offsets «data») (h : i < b .count) where
     -- past the first column the index column and the range are known to pass: the rows are as many
     pub range-known : passes (firstOf (batchLines b)) ≡ true → eqb i 0 ≡ false → InRange (b .column i .table .rows) x
     range-known p e =
         let n : 0 < i = positive e in
         subst (λ (n : ℕ). InRange n x) (sym (rows-equal b p i h)) (column-ready b x 0 (c .passed 0 n) .indices)
 
-  module _ {i validity offsets «data» : ℕ} {outside : Bool} (c : Counted b x i validity offsets «data» outside) (h : i < b .count) (m : Through) (t : ToldOf (eqb i 0) (b .column i) x m) where
+  module _ {i validity offsets «data» : ℕ} (c : Counted b x i validity offsets «data») (h : i < b .count) (m : Through) (t : ToldOf (b .column i) x m) where
     -- it refuses: its refusal is that of the columns
     pub columns-refused : {r : Refusal} → m .checked ≡ Unfit r → AllToldOf b x m
     columns-refused f =
@@ -91,26 +84,17 @@ module _ (b : Batch) (x : IndexColumn) where
           λ g. not-fit f g,
         )
 
-    -- the first column tells, and no other
-    one-tells : (k : ℕ) → ((not (eqb k 0) && first-outside) || (eqb k 0 && someOutside (b .column k .table .rows) x)) ≡ (not (eqb (suc k) 0) && first-outside)
-    one-tells k = rw (ne-eqb (suc k) 0 (λ z. absurd (omega arith))) (go (eqb k 0) refl)
-      where
-        go : (t : Bool) → eqb k 0 ≡ t → ((not t && first-outside) || (t && someOutside (b .column k .table .rows) x)) ≡ first-outside
-        go true e = ap (λ (n : ℕ). someOutside (b .column n .table .rows) x) (eqb-true k 0 e)
-        go false e = or-none first-outside
-
     module _ (f : m .checked ≡ Fit) where
       all-passed : (k : ℕ) → k < suc i → passes (firstOf (throughLines (b .column k) x)) ≡ true
       all-passed = below-suc (λ (k : ℕ). passes (firstOf (throughLines (b .column k) x)) ≡ true) i (lets-pass (t .0) f) (c .passed)
 
-      pub counted-more : Counted b x (i + 1) (validity + m .needed .validity) (offsets + m .needed .offsets) («data» + m .needed .«data») (outside || m .outside)
+      pub counted-more : Counted b x (i + 1) (validity + m .needed .validity) (offsets + m .needed .offsets) («data» + m .needed .«data»)
       counted-more = record {
         inside = omega arith;
         passed = rw add-one all-passed;
-        of-validity = rw (add-one, c .of-validity, ap (λ (n : Lengths). n .validity) (t .1 f .0));
-        of-offsets = rw (add-one, c .of-offsets, ap (λ (n : Lengths). n .offsets) (t .1 f .0));
-        of-data = rw (add-one, c .of-data, ap (λ (n : Lengths). n .«data») (t .1 f .0));
-        of-outside = rw (add-one, c .of-outside, t .1 f .1) (one-tells i);
+        of-validity = rw (add-one, c .of-validity, ap (λ (n : Lengths). n .validity) (t .1 f));
+        of-offsets = rw (add-one, c .of-offsets, ap (λ (n : Lengths). n .offsets) (t .1 f));
+        of-data = rw (add-one, c .of-data, ap (λ (n : Lengths). n .«data») (t .1 f));
       }
 
       -- the sums are far below what a number of 64 bits holds
@@ -123,7 +107,7 @@ module _ (b : Batch) (x : IndexColumn) where
           λ k l. needed-small (b .column k) x (column-ready b x k (all-passed k l)) in
           let last = each i (omega arith) in
           let n : i ≤ 32 = omega arith in
-          let e = t .1 f .0 in (
+          let e = t .1 f in (
             omega (arith, c .of-validity, small-sum i (λ k. need k .validity) bound (λ k l. each k (omega arith) .0) n, last .0, ap (λ (n : Lengths). n .validity) e),
             omega (arith, c .of-offsets, small-sum i (λ k. need k .offsets) bound (λ k l. each k (omega arith) .1) n, last .1, ap (λ (n : Lengths). n .offsets) e),
             omega (arith, c .of-data, small-sum i (λ k. need k .«data») bound (λ k l. each k (omega arith) .2) n, last .2, ap (λ (n : Lengths). n .«data») e),
@@ -131,14 +115,13 @@ module _ (b : Batch) (x : IndexColumn) where
 
   -- ---- the end: every column passes
 
-  pub columns-told : 0 < b .count → {i validity offsets «data» : ℕ} {outside : Bool} → Counted b x i validity offsets «data» outside → i ≡ b .count
-      → AllToldOf b x (record { checked = Fit; needed = record { «data» = «data»; offsets = offsets; validity = validity }; outside = outside })
-  columns-told some c e =
+  pub columns-told : {i validity offsets «data» : ℕ} → Counted b x i validity offsets «data» → i ≡ b .count
+      → AllToldOf b x (record { checked = Fit; needed = record { «data» = «data»; offsets = offsets; validity = validity } })
+  columns-told c e =
       let through : ℕ → List Line = λ k. throughLines (b .column k) x in
-      let p : passes (firstOf (linesOf (b .count) through)) ≡ true = lines-pass through (λ k. through-refusing (b .column k) x) (b .count) (rw e at (c .passed)) in
-      let n : eqb (b .count) 0 ≡ false = ne-eqb (b .count) 0 (λ z. absurd (omega arith)) in (
+      let p : passes (firstOf (linesOf (b .count) through)) ≡ true = lines-pass through (λ k. through-refusing (b .column k) x) (b .count) (rw e at (c .passed)) in (
         sym (none-met-accepts (linesOf (b .count) through) (none-met-passes (linesOf (b .count) through) (columns-refusing b x) p)),
-        λ f. (rw (rw e at (c .of-validity), rw e at (c .of-offsets), rw e at (c .of-data)), rw (e, n) at (c .of-outside)),
+        λ f. rw (rw e at (c .of-validity), rw e at (c .of-offsets), rw e at (c .of-data)),
       )
 
 -- ---- a batch that lies in a body

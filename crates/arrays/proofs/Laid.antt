@@ -18,7 +18,6 @@ use Rattle.tables.specs.Answers.{passes}
 use Rattle.tables.specs.Refusals.{maxRows, maxBytes}
 use Rattle.tables.specs.Rows.{Rows}
 use Rattle.gathers.specs.Stored.{Output, validityBytes, writtenOffsets, dataBytes, validityLength, offsetLength, dataLength, neededLengths, nullCount, store, storeJoined}
-use Rattle.gathers.specs.Buffers.{someOutside}
 use Rattle.gathers.specs.Ready.{Ready, NoOverflow}
 use Rattle.batches.specs.Batch.{Batch, takenFrom}
 use Rattle.batches.specs.Passed.{Passed}
@@ -32,7 +31,7 @@ use Rattle.bits.proofs.Bytes.{length-overwrite, overwrite-tail, overwriteAt-len
 use Rattle.gathers.proofs.Stages.{stored-parts, joined-by}
 use Rattle.gathers.proofs.Written.{data-held}
 use Rattle.gathers.proofs.Joining.{needed-small, nulls-small}
-use Rattle.batches.proofs.Passed.{few-columns, rows-equal, column-ready, column-small, validity-held, offsets-held, joined-room}
+use Rattle.batches.proofs.Passed.{few-columns, column-ready, column-small, validity-held, offsets-held, joined-room}
 
 -- ---- one output: pieces f 0, f 1, .. of n columns, of need 0, need 1, .. bytes
 
@@ -151,9 +150,6 @@ module _ (b : Batch) (x : IndexColumn) (o : Output) (p : Passed b x o) {i validi
 
     pub next-small : NoOverflow (b .column i) x
     next-small = column-small b x i (p .columns i h)
-
-    pub next-outside : {outside : Bool} {n : ℕ} → outside ≡ someOutside (b .column 0 .table .rows) x → b .column i .table .rows ≡ n → outside ≡ someOutside n x
-    next-outside e d = e ∙ ap (λ (n : ℕ). someOutside n x) (sym (rows-equal b (p .batch) i h) ∙ d)
 
     pub next-room : HasRoomFor (v b x i) tails
     next-room = record {

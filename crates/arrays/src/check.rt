@@ -15,22 +15,7 @@ ghost use Rattle.tables.specs.Answers.{passes, firstOf};
 ghost use Rattle.tables.specs.Stages.{checkedNumbers};
 ghost use Rattle.gathers.specs.Stored.{outputAt};
 ghost use Rattle.batches.specs.Batch.{batchAt, batchLines, arraysRefusals};
-ghost use Rattle.arrays.specs.Told.{AllToldOf, TestedOf, stoppedTestAt};
-
-// The first refusal. Where there is none, `outside` says whether some number of the indices, then one under a null index, is that of no row.
-pub struct Tested {
-    pub checked: Checked,
-    pub outside: bool,
-}
-
-fn stopped_test(checked: Checked) -> Tested
-    ensures { λ r. ⌜ r ≡ stoppedTestAt checked ⌝ }
-{
-    Tested {
-        checked,
-        outside: false,
-    }
-}
+ghost use Rattle.arrays.specs.Told.{AllToldOf};
 
 // The columns one by one, each through overflow, and what they need together.
 fn check_columns(
@@ -47,7 +32,6 @@ fn check_columns(
     let mut validity: u64 = 0;
     let mut offsets: u64 = 0;
     let mut data: u64 = 0;
-    let mut outside = false;
     let mut i: usize = 0;
     while i < columns {
         let d = describe(descriptions, i);
@@ -60,7 +44,6 @@ fn check_columns(
         validity += needed.validity;
         offsets += needed.offsets;
         data += needed.data;
-        outside = outside | next.outside;
         i += 1;
     }
     let needed = Lengths {
@@ -71,7 +54,6 @@ fn check_columns(
     Through {
         checked: Checked::Fit,
         needed,
-        outside,
     }
 }
 
@@ -86,16 +68,15 @@ pub fn check(
     out_validity: &[u8],
     out_offsets: &[u8],
     out_data: &[u8],
-) -> Tested
-    ensures first { λ r. ⌜ checkedNumbers (r .checked) ≡ firstOf (arraysRefusals
+) -> Checked
+    ensures { λ r. ⌜ checkedNumbers r ≡ firstOf (arraysRefusals
         (batchAt columns (descriptions .entry) (body .entry))
         (indexColumnAt indices («index_data» .entry) («index_validity» .entry))
         (outputAt («out_validity» .entry) («out_offsets» .entry) («out_data» .entry))) ⌝ }
-    ensures told { λ r. ⌜ TestedOf (batchAt columns (descriptions .entry) (body .entry)) (indexColumnAt indices («index_data» .entry) («index_validity» .entry)) r ⌝ }
 {
     let batched = check_batch(columns, descriptions);
     let Checked::Fit = batched else {
-        return stopped_test(batched);
+        return batched;
     };
     let through = check_columns(
         columns as usize,
@@ -108,16 +89,12 @@ pub fn check(
     let counted = through.checked;
     let joined = through.needed;
     let Checked::Fit = counted else {
-        return stopped_test(counted);
+        return counted;
     };
     let lent = Lengths {
         validity: out_validity.len() as u64,
         offsets: out_offsets.len() as u64,
         data: out_data.len() as u64,
     };
-    let spaced = check_space(joined, lent);
-    Tested {
-        checked: spaced,
-        outside: through.outside,
-    }
+    check_space(joined, lent)
 }

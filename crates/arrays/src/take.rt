@@ -29,7 +29,7 @@ pub fn take_arrays(
         (outputAt («out_validity» .entry) («out_offsets» .entry) («out_data» .entry))
         (outcome (answeredNumbers r) (outputAt («out_validity» .exit) («out_offsets» .exit) («out_data» .exit))) ⌝ }
 {
-    let tested = check(
+    let checked = check(
         columns,
         descriptions,
         body,
@@ -40,7 +40,6 @@ pub fn take_arrays(
         out_offsets,
         out_data,
     );
-    let checked = tested.checked;
     let Checked::Unfit(refusal) = checked else {
         let written = write(
             columns as usize,
@@ -49,7 +48,6 @@ pub fn take_arrays(
             indices,
             index_data,
             index_validity,
-            tested.outside,
             out_validity,
             out_offsets,
             out_data,

@@ -5,7 +5,6 @@ use tables::table::Indices;
 ghost use mathlib.Core.Path.{_≡_};
 ghost use Rattle.tables.specs.Columns.{indexColumnAt};
 ghost use Rattle.gathers.specs.Stored.{outputAt, storeJoined};
-ghost use Rattle.gathers.specs.Buffers.{someOutside};
 ghost use Rattle.batches.specs.Batch.{batchAt, takenFrom};
 ghost use Rattle.batches.specs.Passed.{Passed};
 ghost use Rattle.arrays.specs.Told.{writtenOf};
@@ -23,13 +22,11 @@ pub fn write(
     indices: Indices,
     index_data: &[u8],
     index_validity: &[u8],
-    outside: bool,
     out_validity: &mut [u8],
     out_offsets: &mut [u8],
     out_data: &mut [u8],
 ) -> Written
     requires { ⌜ Passed (batchAt columns descriptions body) (indexColumnAt indices «index_data» «index_validity») (outputAt «out_validity» «out_offsets» «out_data») ⌝ }
-    requires { ⌜ outside ≡ someOutside (batchAt columns descriptions body .column 0 .table .rows) (indexColumnAt indices «index_data» «index_validity») ⌝ }
     ensures told { λ r. ⌜ r ≡ writtenOf columns
         (takenFrom (batchAt columns (descriptions .entry) (body .entry)) (indexColumnAt indices («index_data» .entry) («index_validity» .entry))) ⌝ }
     ensures stored { λ _. ⌜ outputAt («out_validity» .exit) («out_offsets» .exit) («out_data» .exit) ≡ storeJoined columns
@@ -49,7 +46,6 @@ pub fn write(
             indices,
             index_data,
             index_validity,
-            outside,
             &mut out_validity[validity..],
             &mut out_offsets[offsets..],
             &mut out_data[data..],

@@ -9,7 +9,7 @@ use Rattle.tables.specs.Columns.{kindAt, layoutAt, offsetAt, indexValid, index}
 use Rattle.tables.specs.Bodies.{extentOf, columnIn, wordAt, describedAt}
 use Rattle.tables.specs.Refusals.{columnRefusal, indexRefusal}
 use Rattle.tables.specs.Rows.{rowsOf}
-use Rattle.gathers.specs.Taken.{takenValid, names}
+use Rattle.gathers.specs.Taken.{pickedValid}
 use Rattle.gathers.specs.Stored.{validityBytes, startOf, offsetBytes, dataBytes, dataLength, nullCount, storeJoined}
 use Rattle.gathers.specs.Gather.{outOfRange, overflowAt, throughLines}
 use Rattle.gathers.specs.Blank.{reached, blank}
@@ -18,7 +18,7 @@ use Rattle.batches.specs.Trials.{Hold, trials, runClearing, expectedClea
 
 -- what a trial computes with: to unfold this name is to unfold them all
 computed : Unit {0}
-unfolding numberAt bitAt byteOf packBytes pack replaceBits validAt kindOf kindAt layoutAt offsetAt extentOf columnIn wordAt describedAt columnRefusal indexRefusal indexValid index rowsOf takenValid names validityBytes startOf offsetBytes dataBytes dataLength nullCount overflowAt storeJoined throughLines outOfRange reached blank arraysRefusals gatheredAll gatherArrays cleared
+unfolding numberAt bitAt byteOf packBytes pack replaceBits validAt kindOf kindAt layoutAt offsetAt extentOf columnIn wordAt describedAt columnRefusal indexRefusal indexValid index rowsOf pickedValid validityBytes startOf offsetBytes dataBytes dataLength nullCount overflowAt storeJoined throughLines outOfRange reached blank arraysRefusals gatheredAll gatherArrays cleared
 computed = tt
 
 pub trials-hold : Hold trials

@@ -22,13 +22,13 @@ module _ (x : IndexColumn) (c : Column) where
       go true = blank-rows c x
       go false = refl
 
-  pub cleared-alike : TakenAlike c (cleared x c) x
+  pub cleared-alike : TakenAlike c x (cleared x c) x
   unfolding cleared
   cleared-alike = go (passes (columnRefusal c)) refl
     where
-      go : (t : Bool) → passes (columnRefusal c) ≡ t → TakenAlike c (cond t (blank c x) c) x
+      go : (t : Bool) → passes (columnRefusal c) ≡ t → TakenAlike c x (cond t (blank c x) c) x
       go true e = blank-alike c x (passed-well-formed c e)
       go false e = alike-self c x
 
 pub arrays-blank : (b : Batch) (x : IndexColumn) (o : Output) → gatherArrays b x o ≡ gatherArrays (clearedBatch b x) x o
-arrays-blank b x o = arrays-alike b (λ i. cleared x (b .column i)) x o (λ i. cleared-rows x (b .column i)) (λ i. cleared-alike x (b .column i))
+arrays-blank b x o = arrays-alike b (λ i. cleared x (b .column i)) x x o (λ i h. cleared-rows x (b .column i)) (λ i h. cleared-alike x (b .column i))

@@ -1,8 +1,9 @@
--- Two batches whose columns are taken alike are gathered alike. Assumes nothing.
+-- Two batches whose columns are taken alike, each by its index column, are gathered alike. Assumes nothing.
 use mathlib.Core.Path.{_≡_, refl, sym, ap, _∙_}
 use mathlib.Core.Bool.{Bool, true, false, cond, not}
 use mathlib.Core.List.{List}
 use Prim.Native.Nat.{ℕ, _<_}
+use native.Mathlib.Omega.{arith}
 use lib.Dec.{eqb}
 use Rattle.bits.specs.Sequences.{concat, sum, any}
 use Rattle.tables.specs.declared.refusal.Answer.{Answer}
@@ -40,10 +41,10 @@ module _ (n : ℕ) (v w : ℕ → Rows) (s : (i : ℕ) → i < n → StoredAlike
   unfolding gatheredAll
   joined-answer = rw (sum-cong n (λ i h. total-alike (s i h)), sum-cong n (λ i h. s i h .nulls))
 
--- ---- other columns in the place of a batch's
+-- ---- other columns in the place of a batch's, and another index column
 
-module _ (b : Batch) (column : ℕ → Column) (x : IndexColumn) (o : Output)
-    (rows : (i : ℕ) → column i .table .rows ≡ b .column i .table .rows) (s : (i : ℕ) → TakenAlike (b .column i) (column i) x) where
+module _ (b : Batch) (column : ℕ → Column) (x y : IndexColumn) (o : Output)
+    (rows : (i : ℕ) → i < b .count → column i .table .rows ≡ b .column i .table .rows) (s : (i : ℕ) → i < b .count → TakenAlike (b .column i) x (column i) y) where
   abbrev d : Batch
   d = record { count = b .count; short = b .short; column = column }
 
@@ -51,7 +52,7 @@ module _ (b : Batch) (column : ℕ → Column) (x : IndexColumn) (o : Output)
   v = takenFrom b x
 
   abbrev w : ℕ → Rows
-  w = takenFrom d x
+  w = takenFrom d y
 
   abbrev space : (ℕ → Rows) → Answer
   space v = firstOf (spaceLines (joinedLengths (b .count) v) (lentLengths o))
@@ -62,18 +63,18 @@ module _ (b : Batch) (column : ℕ → Column) (x : IndexColumn) (o : Output)
   same-batch : batchLines d ≡ batchLines b
   same-batch =
       let differs : (ℕ → Column) → ℕ → Bool = λ column i. not (eqb (column i .table .rows) (column 0 .table .rows)) in
-      rw (any-cong (b .count) {p = differs column} {q = differs (b .column)} (λ i h. rw (rows i, rows 0)))
+      rw (any-cong (b .count) {p = differs column} {q = differs (b .column)} (λ i h. rw (rows i h, rows 0 (omega arith))))
 
-  same-through : firstOf (linesOf (b .count) (λ i. throughLines (column i) x)) ≡ firstOf (linesOf (b .count) (λ i. throughLines (b .column i) x))
+  same-through : firstOf (linesOf (b .count) (λ i. throughLines (column i) y)) ≡ firstOf (linesOf (b .count) (λ i. throughLines (b .column i) x))
   same-through =
-      lines-cong (λ i. throughLines (column i) x) (λ i. throughLines (b .column i) x) (λ i. through-refusing (column i) x) (λ i. through-refusing (b .column i) x) (b .count)
-      (λ i h. sym (through-alike (b .column i) (column i) x (s i)))
+      lines-cong (λ i. throughLines (column i) y) (λ i. throughLines (b .column i) x) (λ i. through-refusing (column i) y) (λ i. through-refusing (b .column i) x) (b .count)
+      (λ i h. sym (through-alike (b .column i) x (column i) y (s i h)))
 
   stored : passes before ≡ true → (i : ℕ) → i < b .count → StoredAlike (v i) (w i)
   stored e i h =
       let p = orElse-passes (firstOf (batchLines b)) (firstOf (linesOf (b .count) (λ i. throughLines (b .column i) x))) e in
       let q = lines-passed (λ i. throughLines (b .column i) x) (λ i. through-refusing (b .column i) x) (b .count) (p .1) i h in
-      s i .stored (passed-before (b .column i) x q)
+      s i h .stored (passed-before (b .column i) x q)
 
   abbrev end : Answer → (ℕ → Rows) → Outcome
   end a v = cond (passes a) (record { answer = gatheredAll (b .count) v; output = storeJoined (b .count) v o }) (record { answer = a; output = o })
@@ -90,13 +91,13 @@ module _ (b : Batch) (column : ℕ → Column) (x : IndexColumn) (o : Output)
   same true e = space-same e
   same false e = rw e
 
-  same-refusals : firstOf (arraysRefusals d x o) ≡ before orElse space w
+  same-refusals : firstOf (arraysRefusals d y o) ≡ before orElse space w
   same-refusals =
-      let through : Answer = firstOf (linesOf (b .count) (λ i. throughLines (column i) x)) in
-      by-stages d x o
+      let through : Answer = firstOf (linesOf (b .count) (λ i. throughLines (column i) y)) in
+      by-stages d y o
       ∙ ap (λ (ls : List Line). firstOf ls orElse through orElse space w) same-batch
       ∙ ap (λ (a : Answer). firstOf (batchLines b) orElse a orElse space w) same-through
 
-  pub arrays-alike : gatherArrays b x o ≡ gatherArrays d x o
+  pub arrays-alike : gatherArrays b x o ≡ gatherArrays d y o
   unfolding gatherArrays
   arrays-alike = ap (λ (a : Answer). end a v) (by-stages b x o) ∙ same (passes before) refl ∙ ap (λ (a : Answer). end a w) (sym same-refusals)

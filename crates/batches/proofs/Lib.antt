@@ -3,6 +3,7 @@ pub mod Refused
 pub mod Passed
 pub mod Exchanged
 pub mod Blanked
+pub mod Alike
 pub mod One
 pub mod Separate
 pub mod Cases

@@ -13,11 +13,13 @@ use borrow.Author.Tests.{lt-ltb, ltb-true, eqb-true, eqb-false}
 use Rattle.bits.specs.Numbers.{numberAt, isNumberWidth}
 use Rattle.bits.specs.Bits.{bitValue, bitAt, byteOf, pack, isAbsent, validAt}
 use Rattle.tables.specs.Columns.{IndexColumn, indexValid, index}
+use Rattle.tables.specs.Refusals.{maxRows}
 use Rattle.gathers.specs.Buffers.{takenBit}
 use Rattle.gathers.specs.Ready.{InRange}
-use Rattle.bitmaps.specs.Reach.{HoldsBits, Reached, bitIn, byteBit, Reaches}
+use Rattle.bitmaps.specs.Reach.{HoldsBits, MaskThere, Reached, bitIn, byteBit, Reaches}
 use Rattle.bits.proofs.Bytes.{block-inside}
 use Rattle.bits.proofs.Bits.{bitValue-lt, bit-test, bit-value, byteOf-bit, byteOf-cong, pack-cong, validAt-absent, validAt-present}
+use Rattle.bits.proofs.Words.{byte-and}
 use Rattle.tables.proofs.Facts.{index-formed}
 use Rattle.tables.proofs.There.{index-number, index-valid, index-valid-there, valid-bits-there}
 use Rattle.gathers.proofs.Buffers.{valid-below, bit-named, bit-null}
@@ -118,11 +120,11 @@ module _ (s : List ℕ) (b rows : ℕ) (x : IndexColumn) (i : InRange rows x) wh
   }
 
   -- of no rows none is valid, and the output is the validity of the indices
-  pub no-rows : rows ≡ 0 → (length (x .validity) ≡ 0 → ⊥)
-      → pack (x .indices .count) (λ j. bitAt (x .validity) (x .indices .«validity_bit» + j)) ≡ pack (x .indices .count) (takenBit s b x)
-  no-rows e n =
+  pub no-rows : (m : List ℕ) → rows ≡ 0 → (length (x .validity) ≡ 0 → ⊥)
+      → pack (x .indices .count) (λ j. bitAt (x .validity) (x .indices .«validity_bit» + j)) ≡ pack (x .indices .count) (λ j. takenBit s b x j && validAt m 0 j)
+  no-rows m e n =
       pack-cong (x .indices .count)
-      (λ j h. sym (index-valid x j ∙ validAt-present (x .validity) (x .indices .«validity_bit») j n) ∙ none j h ∙ sym (bit-null s b x j (none j h)))
+      (λ j h. sym (index-valid x j ∙ validAt-present (x .validity) (x .indices .«validity_bit») j n) ∙ none j h ∙ sym (ap (λ (t : Bool). t && validAt m 0 j) (bit-null s b x j (none j h))))
     where
       none : (j : ℕ) → j < x .indices .count → indexValid x j ≡ false
       none j h = go (indexValid x j) refl
@@ -166,3 +168,20 @@ module _ (s : List ℕ) (b : ℕ) (x : IndexColumn) (r : Reached b s x) (p n : �
         go : (t : ℕ) (z : Bool) → ltb t n ≡ z → (z && byteBit b (x .indices .width) (x .«data») s valid p t) ≡ (z && takenBit s b x (p + t))
         go t true d = rw (v t (ltb-true t n d), ← index-number x (p + t)) (bit t (validAt (x .validity) (x .indices .«validity_bit») (p + t)) (index-valid x (p + t)))
         go t false d = refl
+
+    -- and masked by the byte of a mask
+    pub byte-kept : (m : List ℕ) {y : ℕ} → y ≡ byteOf (λ t. ltb t n && byteBit b (x .indices .width) (x .«data») s valid p t) → (kept : ℕ)
+        → ((t : ℕ) → t < n → bitIn kept t ≡ validAt m 0 (p + t)) → bitAnd y kept ≡ byteOf (λ t. ltb t n && (takenBit s b x (p + t) && validAt m 0 (p + t)))
+    byte-kept m e kept k =
+        ap (λ (z : ℕ). bitAnd z kept) (byte-taken e)
+        ∙ byte-and (λ t. ltb t n && takenBit s b x (p + t)) (bitIn kept) kept (λ t l. refl)
+        ∙ byteOf-cong (λ t l. go t (ltb t n) refl)
+      where
+        go : (t : ℕ) (z : Bool) → ltb t n ≡ z → ((z && takenBit s b x (p + t)) && bitIn kept t) ≡ (z && (takenBit s b x (p + t) && validAt m 0 (p + t)))
+        go t true d = rw (k t (ltb-true t n d))
+        go t false d = refl
+
+-- the bits of a mask are there, if any is lent
+pub mask-there : (m : List ℕ) (count : ℕ) → MaskThere count m → count ≤ maxRows → (p n : ℕ) → p + n ≤ count → isAbsent m ≡ false
+    → (0 + p + n ≤ 8 * length m) × (0 + p < 2 ^ 64)
+mask-there m count t few p n h e = (omega (arith, t e), omega arith)

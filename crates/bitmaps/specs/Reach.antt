@@ -1,12 +1,12 @@
 -- What a gather of bits asks of its source and of the numbers that it reads, and what it makes of a byte.
 use Prim.Native.Nat.{ℕ, _+_, _*_, _/_, _%_, _^_, _≤_, _<_}
 use mathlib.Core.Path.{_≡_}
-use mathlib.Core.Bool.{Bool, true, _&&_}
+use mathlib.Core.Bool.{Bool, true, false, _&&_}
 use mathlib.Core.List.{List}
 use lib.Dec.{eqb}
 use lib.ListN.{length}
 use Rattle.bits.specs.Numbers.{numberAt, isNumberWidth}
-use Rattle.bits.specs.Bits.{bitAt, bytesFor, pack}
+use Rattle.bits.specs.Bits.{bitAt, bytesFor, pack, isAbsent, validAt}
 use Rattle.tables.specs.Columns.{IndexColumn, indexValid, index}
 use Rattle.tables.specs.Answers.{passes}
 use Rattle.tables.specs.Refusals.{maxRows, maxBytes, indexRefusal}
@@ -17,9 +17,13 @@ pub record HoldsBits (b rows : ℕ) (s : List ℕ) : Type 0 where
   pub small : length s ≤ maxBytes
   pub there : bytesFor (b + rows) ≤ length s
 
--- the output bits, spare bits 0
-abbrev pub takenBits : List ℕ → ℕ → IndexColumn → List ℕ
-takenBits s b x = pack (x .indices .count) (takenBit s b x)
+-- the output bits, spare bits 0; where m is there, 0 also where a bit of it is
+abbrev pub takenBits : List ℕ → ℕ → IndexColumn → List ℕ → List ℕ
+takenBits s b x m = pack (x .indices .count) (λ j. takenBit s b x j && validAt m 0 j)
+
+-- a mask of so many bits, or none
+abbrev pub MaskThere : ℕ → List ℕ → Type 0
+MaskThere n m = isAbsent m ≡ false → bytesFor n ≤ length m
 
 -- an index column that no test of its own refuses; s has the first row's bit, if there is an index, and that of each row which a valid index names
 pub record Reached (b : ℕ) (s : List ℕ) (x : IndexColumn) : Type 0 where

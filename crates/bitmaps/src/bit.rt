@@ -14,7 +14,7 @@ ghost use Rattle.bits.specs.Bits.{bitValue, bytesFor, byteOf, isAbsent, validAt
 ghost use Rattle.bits.specs.Bytes.{overwrite};
 ghost use Rattle.tables.specs.Columns.{indexColumnAt};
 ghost use Rattle.gathers.specs.Ready.{InRange};
-ghost use Rattle.bitmaps.specs.Reach.{HoldsBits, takenBits, Reached, bitIn, byteBit, Reaches};
+ghost use Rattle.bitmaps.specs.Reach.{HoldsBits, takenBits, MaskThere, Reached, bitIn, byteBit, Reaches};
 
 // Bit t of the output byte whose first index is index p, in its place: Rust's `pack_bit`. Under a null index the first row's bit is read.
 fn take_bit(
@@ -69,19 +69,22 @@ fn valid_byte(index_validity: &[u8], bit_offset: usize, p: usize, n: usize) -> u
     bits_at(index_validity, bit_offset + p, n)
 }
 
-// Writes the bits of src, from bit_offset on, that the indices name: whole bytes, then the bits that are left. A function of its own, so that the
-// compiler makes its loops for indices with and without validity.
+// Writes the bits of src, from bit_offset on, that the indices name, masked by a byte at a time: whole bytes, then the bits that are left. A function of its own, so
+// that the compiler makes its loops for indices and masks that are there and not.
 fn take_reached(
     src: &[u8],
     bit_offset: usize,
     indices: Indices,
     index_data: &[u8],
     index_validity: &[u8],
+    mask: &[u8],
     out: &mut [u8],
 )
     requires { ⌜ Reached «bit_offset» (now src) (indexColumnAt indices «index_data» «index_validity») ⌝ }
+    requires { ⌜ MaskThere (indices .count) (now mask) ⌝ }
     requires { ⌜ bytesFor (indices .count) ≤ length (now out) ⌝ }
-    ensures { λ _. ⌜ now (out .exit) ≡ overwrite (takenBits (now (src .entry)) «bit_offset» (indexColumnAt indices («index_data» .entry) («index_validity» .entry))) (now (out .entry)) ⌝ }
+    ensures { λ _. ⌜ now (out .exit) ≡ overwrite (takenBits (now (src .entry)) «bit_offset»
+        (indexColumnAt indices («index_data» .entry) («index_validity» .entry)) (now (mask .entry))) (now (out .entry)) ⌝ }
 {
     let count = indices.count as usize;
     let validity_bit = indices.validity_bit as usize;
@@ -90,7 +93,8 @@ fn take_reached(
     let mut k = 0;
     while k < whole {
         let valid = valid_byte(index_validity, validity_bit, 8 * k, 8);
-        out[k] = take_byte(src, bit_offset, w, index_data, valid, 8 * k, 8);
+        let kept = valid_byte(mask, 0, 8 * k, 8);
+        out[k] = take_byte(src, bit_offset, w, index_data, valid, 8 * k, 8) & kept;
         k += 1;
     }
     let rest = count % 8;
@@ -98,10 +102,11 @@ fn take_reached(
         return;
     }
     let valid = valid_byte(index_validity, validity_bit, 8 * k, rest);
-    out[k] = take_byte(src, bit_offset, w, index_data, valid, 8 * k, rest);
+    let kept = valid_byte(mask, 0, 8 * k, rest);
+    out[k] = take_byte(src, bit_offset, w, index_data, valid, 8 * k, rest) & kept;
 }
 
-// Writes the bits of src, of so many rows from bit_offset on, that the indices name.
+// Writes the bits of src, of so many rows from bit_offset on, that the indices name; a mask that is there, from its bit 0 on, says which are kept.
 pub fn take_bits(
     src: &[u8],
     bit_offset: usize,
@@ -109,12 +114,15 @@ pub fn take_bits(
     indices: Indices,
     index_data: &[u8],
     index_validity: &[u8],
+    mask: &[u8],
     out: &mut [u8],
 )
     requires { ⌜ InRange rows (indexColumnAt indices «index_data» «index_validity») ⌝ }
     requires { ⌜ HoldsBits «bit_offset» rows (now src) ⌝ }
+    requires { ⌜ MaskThere (indices .count) (now mask) ⌝ }
     requires { ⌜ bytesFor (indices .count) ≤ length (now out) ⌝ }
-    ensures { λ _. ⌜ now (out .exit) ≡ overwrite (takenBits (now (src .entry)) «bit_offset» (indexColumnAt indices («index_data» .entry) («index_validity» .entry))) (now (out .entry)) ⌝ }
+    ensures { λ _. ⌜ now (out .exit) ≡ overwrite (takenBits (now (src .entry)) «bit_offset»
+        (indexColumnAt indices («index_data» .entry) («index_validity» .entry)) (now (mask .entry))) (now (out .entry)) ⌝ }
 {
     // no index is valid, for there is no row: their validity is all zeros, as the output is
     if (rows == 0) & (index_validity.len() != 0) {
@@ -126,5 +134,13 @@ pub fn take_bits(
         );
         return;
     }
-    take_reached(src, bit_offset, indices, index_data, index_validity, out);
+    take_reached(
+        src,
+        bit_offset,
+        indices,
+        index_data,
+        index_validity,
+        mask,
+        out,
+    );
 }

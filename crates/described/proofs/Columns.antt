@@ -1,6 +1,6 @@
 -- What the tests and the writing of one column tell (specs/Told.antt, specs/Taken.antt), by what the stages below answer. Assumes nothing.
 use mathlib.Core.Path.{_≡_, refl, sym, ap, _∙_, subst}
-use mathlib.Core.Bool.{Bool, true, false, _&&_, false≢true}
+use mathlib.Core.Bool.{Bool, true, false, false≢true}
 use mathlib.Core.List.{List}
 use Prim.Native.Nat.{ℕ, suc, _+_, _*_, _^_, _≤_, _<_}
 use native.Mathlib.Omega.{arith}
@@ -22,7 +22,6 @@ use Rattle.tables.specs.Rows.{Rows, rowsOf}
 use Rattle.gathers.specs.Taken.{takeRows}
 use Rattle.gathers.specs.Stored.{Output, validityBytes, writtenOffsets, dataBytes, offsetLength, dataLength, neededLengths, nullCount, storeOffsets, store}
 use Rattle.gathers.specs.Stages.{rangeRefusal, overflowRefusal, measured}
-use Rattle.gathers.specs.Buffers.{someOutside}
 use Rattle.gathers.specs.Ready.{Ready, NoOverflow, HasRoom}
 use Rattle.variable.specs.declared.total.Measured.{Measured}
 use Rattle.variable.specs.Measured.{measuredBy, measuredNumbers}
@@ -64,44 +63,40 @@ module _ (c : Column) (x : IndexColumn) where
   abbrev rest : Answer
   rest = offsetsRefusal c orElse rangeRefusal (c .table .rows) x orElse overflowRefusal v
 
-  module _ (first : Bool) where
-    stop : {s : Checked} {r : Refusal} {t : Through} → checkedNumbers s ≡ rest → s ≡ Unfit r → t ≡ stoppedAt s → RestToldOf first c x t
-    stop e f d = subst (RestToldOf first c x) (sym d) (e, λ g. not-fit f g)
+  stop : {s : Checked} {r : Refusal} {t : Through} → checkedNumbers s ≡ rest → s ≡ Unfit r → t ≡ stoppedAt s → RestToldOf c x t
+  stop e f d = subst (RestToldOf c x) (sym d) (e, λ g. not-fit f g)
 
-    pub offsets-stopped : {s : Checked} {r : Refusal} {t : Through} → checkedNumbers s ≡ offsetsRefusal c → s ≡ Unfit r → t ≡ stoppedAt s → RestToldOf first c x t
-    offsets-stopped e f d = let n = refuses e f in stop (e ∙ rw (n, n)) f d
+  pub offsets-stopped : {s : Checked} {r : Refusal} {t : Through} → checkedNumbers s ≡ offsetsRefusal c → s ≡ Unfit r → t ≡ stoppedAt s → RestToldOf c x t
+  offsets-stopped e f d = let n = refuses e f in stop (e ∙ rw (n, n)) f d
 
-    module _ (p : SizesPassed first c x) {s : Checked} (se : checkedNumbers s ≡ offsetsRefusal c) (sf : s ≡ Fit) where
-      good : passes (offsetsRefusal c) ≡ true
-      good = lets-pass se sf
+  module _ {first : Bool} (p : SizesPassed first c x) {s : Checked} (se : checkedNumbers s ≡ offsetsRefusal c) (sf : s ≡ Fit) where
+    good : passes (offsetsRefusal c) ≡ true
+    good = lets-pass se sf
 
-      pub range-stopped : {t : Checked} {r : Refusal} {q : Through} → checkedNumbers t ≡ rangeRefusal (c .table .rows) x → t ≡ Unfit r → q ≡ stoppedAt t
-          → RestToldOf first c x q
-      range-stopped e f d = let n = refuses e f in stop (e ∙ rw (good, n)) f d
+    pub range-stopped : {t : Checked} {r : Refusal} {q : Through} → checkedNumbers t ≡ rangeRefusal (c .table .rows) x → t ≡ Unfit r → q ≡ stoppedAt t → RestToldOf c x q
+    range-stopped e f d = let n = refuses e f in stop (e ∙ rw (good, n)) f d
 
-      module _ {t : Checked} (te : checkedNumbers t ≡ rangeRefusal (c .table .rows) x) (tf : t ≡ Fit) where
-        range : passes (rangeRefusal (c .table .rows) x) ≡ true
-        range = lets-pass te tf
+    module _ {t : Checked} (te : checkedNumbers t ≡ rangeRefusal (c .table .rows) x) (tf : t ≡ Fit) where
+      range : passes (rangeRefusal (c .table .rows) x) ≡ true
+      range = lets-pass te tf
 
-        pub rest-ready : Ready c x
-        rest-ready = record { column = sized-well-formed c (p .sized) good; indices = record { passed = p .indices; range = range } }
+      pub rest-ready : Ready c x
+      rest-ready = record { column = sized-well-formed c (p .sized) good; indices = record { passed = p .indices; range = range } }
 
-        by-overflow : overflowRefusal v ≡ rest
-        by-overflow = rw (good, range)
+      by-overflow : overflowRefusal v ≡ rest
+      by-overflow = rw (good, range)
 
-        pub rest-told : (m : Measured) → measuredNumbers m ≡ measured v → {n : Lengths} → n ≡ found (m .total) → {outside : Bool}
-            → outside ≡ (first && someOutside (c .table .rows) x) → RestToldOf first c x (record { checked = m .checked; needed = n; outside = outside })
-        rest-told m e {n} h {outside} o = go (m .checked) refl
-          where
-            go : (s : Checked) → m .checked ≡ s
-                → (checkedNumbers (m .checked) ≡ rest) × (m .checked ≡ Fit → (n ≡ neededLengths v) × (outside ≡ (first && someOutside (c .table .rows) x)))
-            go Fit f =
-                let t = measured-total v (sym (ap (λ (s : Checked). measuredBy s (m .total)) f) ∙ e) in
-                (ap checkedNumbers f ∙ sym (overflow-accepts v (t .0)) ∙ by-overflow, λ g. (h ∙ needed-told c x (t .1), o))
-            go (Unfit r) f =
-                let d = sym (ap (λ (s : Checked). measuredBy s (m .total)) f) ∙ e in
-                let t = measured-refused v (rw (sym d) (refusing r)) in
-                (ap checkedNumbers f ∙ d ∙ t .1 ∙ by-overflow, λ g. not-fit f g)
+      pub rest-told : (m : Measured) → measuredNumbers m ≡ measured v → {n : Lengths} → n ≡ found (m .total) → RestToldOf c x (record { checked = m .checked; needed = n })
+      rest-told m e {n} h = go (m .checked) refl
+        where
+          go : (s : Checked) → m .checked ≡ s → (checkedNumbers (m .checked) ≡ rest) × (m .checked ≡ Fit → n ≡ neededLengths v)
+          go Fit f =
+              let t = measured-total v (sym (ap (λ (s : Checked). measuredBy s (m .total)) f) ∙ e) in
+              (ap checkedNumbers f ∙ sym (overflow-accepts v (t .0)) ∙ by-overflow, λ g. h ∙ needed-told c x (t .1))
+          go (Unfit r) f =
+              let d = sym (ap (λ (s : Checked). measuredBy s (m .total)) f) ∙ e in
+              let t = measured-refused v (rw (sym d) (refusing r)) in
+              (ap checkedNumbers f ∙ d ∙ t .1 ∙ by-overflow, λ g. not-fit f g)
 
   -- ---- the writing
 

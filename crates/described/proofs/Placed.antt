@@ -86,11 +86,11 @@ module _ (c : Column) (x : IndexColumn) (first : Bool) (known : first ≡ false 
       go true k = refl
       go false k = form-alone c ∙ sym (form-tested c x (k refl .passed))
 
-  pub sizes-stopped : {s : Checked} {r : Refusal} {t : Through} → checkedNumbers s ≡ sizesRefusal c (tested first x) → s ≡ Unfit r → t ≡ stoppedAt s → ToldOf first c x t
+  pub sizes-stopped : {s : Checked} {r : Refusal} {t : Through} → checkedNumbers s ≡ sizesRefusal c (tested first x) → s ≡ Unfit r → t ≡ stoppedAt s → ToldOf c x t
   sizes-stopped e f d =
       let g = stage-refused c (tested first x) e f ∙ form-by in
       let n = refuses g f in
-      subst (ToldOf first c x) (sym d) (g ∙ rw (through-stages c x, n, n), λ h. not-fit f h)
+      subst (ToldOf c x) (sym d) (g ∙ rw (through-stages c x, n, n), λ h. not-fit f h)
 
   module _ {s : Checked} (se : checkedNumbers s ≡ sizesRefusal c (tested first x)) (sf : s ≡ Fit) where
     pub sizes-passed-by : SizesPassed first c x
@@ -100,7 +100,7 @@ module _ (c : Column) (x : IndexColumn) (first : Bool) (known : first ≡ false 
         go true k e = sizes-passed c x (lets-pass e sf) .1
         go false k e = k refl .passed
 
-    pub all-told : (r : Through) → RestToldOf first c x r → ToldOf first c x r
+    pub all-told : (r : Through) → RestToldOf c x r → ToldOf c x r
     all-told r t =
         let f : offsetsRefusal c ≡ formRefusal c x = stage-passed c (tested first x) se sf refl ∙ form-by in
         (t .0 ∙ ap (λ (a : Answer). a orElse rangeRefusal (c .table .rows) x orElse overflowRefusal (taken c x)) f ∙ sym (through-stages c x), t .1)

@@ -2,7 +2,7 @@
 -- range are tested with it.
 use Prim.Native.Nat.{ℕ}
 use mathlib.Core.Path.{_≡_}
-use mathlib.Core.Bool.{Bool, true, false, cond, _&&_}
+use mathlib.Core.Bool.{Bool, true, false, cond}
 use Rattle.tables.specs.declared.refusal.Checked.{Checked}
 use Rattle.tables.specs.declared.refusal.Checked.the-variants.{Fit}
 use Rattle.tables.specs.declared.table.Indices.{Indices}
@@ -19,16 +19,14 @@ use Rattle.gathers.specs.Taken.{taken}
 use Rattle.gathers.specs.Stored.{neededLengths}
 use Rattle.gathers.specs.Gather.{throughLines}
 use Rattle.gathers.specs.Stages.{rangeRefusal, overflowRefusal}
-use Rattle.gathers.specs.Buffers.{someOutside}
 use Rattle.described.specs.declared.column.Through.{Through}
-use Rattle.described.specs.declared.column.Ranged.{Ranged}
 
 abbrev pub noLengths : Lengths
 noLengths = record { «data» = 0; offsets = 0; validity = 0 }
 
 -- a refusal, unchanged
 abbrev pub stoppedAt : Checked → Through
-stoppedAt s = record { checked = s; needed = noLengths; outside = false }
+stoppedAt s = record { checked = s; needed = noLengths }
 
 -- the lengths of the buffers that are used, as stated
 abbrev pub statedLengths : Uses → Description → Lengths
@@ -41,25 +39,20 @@ testedIndices first x = cond first x (indexDescription 1 0 0)
 abbrev pub testedLengths : Bool → ℕ → ℕ → IndexLengths
 testedLengths first «data» validity = cond first (record { «data» = «data»; validity = validity }) (record { «data» = 0; validity = 0 })
 
--- refusal 5, and whether it is a first column and some number is that of no row
-abbrev pub RangedOf : Bool → ℕ → IndexColumn → Ranged → Type 0
-RangedOf first rows x r = (checkedNumbers (r .checked) ≡ rangeRefusal rows x) × (r .outside ≡ (first && someOutside rows x))
-
 -- refusals 1 to 3 let pass, and after the first column the range
 pub record SizesPassed (first : Bool) (c : Column) (x : IndexColumn) : Type 0 where
   pub sized : Sized c
   pub indices : passes (indexRefusal x) ≡ true
   pub range : first ≡ false → passes (rangeRefusal (c .table .rows) x) ≡ true
 
--- where nothing is refused: what the rows need, and whether it is a first column and some number is that of no row
-abbrev pub PassedOf : Bool → Column → IndexColumn → Through → Type 0
-PassedOf first c x r = r .checked ≡ Fit → (r .needed ≡ neededLengths (taken c x)) × (r .outside ≡ (first && someOutside (c .table .rows) x))
+-- where nothing is refused: what the rows need
+abbrev pub PassedOf : Column → IndexColumn → Through → Type 0
+PassedOf c x r = r .checked ≡ Fit → r .needed ≡ neededLengths (taken c x)
 
 -- refusals 4 to 6
-abbrev pub RestToldOf : Bool → Column → IndexColumn → Through → Type 0
-RestToldOf first c x r =
-    (checkedNumbers (r .checked) ≡ offsetsRefusal c orElse rangeRefusal (c .table .rows) x orElse overflowRefusal (taken c x)) × PassedOf first c x r
+abbrev pub RestToldOf : Column → IndexColumn → Through → Type 0
+RestToldOf c x r = (checkedNumbers (r .checked) ≡ offsetsRefusal c orElse rangeRefusal (c .table .rows) x orElse overflowRefusal (taken c x)) × PassedOf c x r
 
 -- refusals 1 to 6
-abbrev pub ToldOf : Bool → Column → IndexColumn → Through → Type 0
-ToldOf first c x r = (checkedNumbers (r .checked) ≡ firstOf (throughLines c x)) × PassedOf first c x r
+abbrev pub ToldOf : Column → IndexColumn → Through → Type 0
+ToldOf c x r = (checkedNumbers (r .checked) ≡ firstOf (throughLines c x)) × PassedOf c x r

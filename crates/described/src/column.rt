@@ -6,7 +6,6 @@ use kinds::kind::layout_of;
 use nulls::null::take_nulls;
 use offsets::check::check_offsets;
 use range::bounds::check_bounds;
-use range::outside::some_outside;
 use stages::measure::measure;
 use stages::space::needed_lengths;
 use stages::values::take_values;
@@ -19,33 +18,25 @@ ghost use mathlib.Core.Path.{_≡_};
 ghost use mathlib.Core.Bool.{true, false};
 ghost use Rattle.tables.specs.Columns.{columnAt, indexColumnAt};
 ghost use Rattle.tables.specs.Answers.{passes};
+ghost use Rattle.tables.specs.Stages.{checkedNumbers};
 ghost use Rattle.tables.specs.Refusals.{indexRefusal};
 ghost use Rattle.gathers.specs.Taken.{taken};
 ghost use Rattle.gathers.specs.Stored.{outputAt, store};
 ghost use Rattle.gathers.specs.Stages.{rangeRefusal};
 ghost use Rattle.gathers.specs.Ready.{Ready, NoOverflow};
-ghost use Rattle.gathers.specs.Buffers.{someOutside};
-ghost use Rattle.described.specs.Told.{stoppedAt, RangedOf, SizesPassed, RestToldOf};
+ghost use Rattle.described.specs.Told.{stoppedAt, SizesPassed, RestToldOf};
 ghost use Rattle.described.specs.Taken.{takenOf, dataIn, OffsetsIn, HasRoomFor};
 
-// What the tests of a column tell. Where there is no refusal: how many bytes of each output the rows need, and whether it is a first column and some number
-// of the indices, then one under a null index, is that of no row.
+// What the tests of a column tell: the first refusal, and where there is none how many bytes of each output the rows need.
 pub struct Through {
     pub checked: Checked,
     pub needed: Lengths,
-    pub outside: bool,
 }
 
 // How many bytes of each output the rows took, and how many rows are null.
 pub struct Taken {
     pub needed: Lengths,
     pub nulls: u64,
-}
-
-// What the range test tells.
-pub struct Ranged {
-    pub checked: Checked,
-    pub outside: bool,
 }
 
 // A stage's refusal, passed up unchanged.
@@ -57,11 +48,7 @@ pub fn stopped(checked: Checked) -> Through
         offsets: 0,
         validity: 0,
     };
-    Through {
-        checked,
-        needed,
-        outside: false,
-    }
+    Through { checked, needed }
 }
 
 // Refusal 5 of a first column. One after it has as many rows, and its range is known to pass.
@@ -71,20 +58,15 @@ fn check_range(
     indices: Indices,
     index_data: &[u8],
     index_validity: &[u8],
-) -> Ranged
+) -> Checked
     requires { ⌜ passes (indexRefusal (indexColumnAt indices «index_data» «index_validity»)) ≡ true ⌝ }
     requires { ⌜ (first ≡ false → passes (rangeRefusal rows (indexColumnAt indices «index_data» «index_validity»)) ≡ true) ⌝ }
-    ensures { λ r. ⌜ RangedOf first rows (indexColumnAt indices («index_data» .entry) («index_validity» .entry)) r ⌝ }
+    ensures { λ r. ⌜ checkedNumbers r ≡ rangeRefusal rows (indexColumnAt indices («index_data» .entry) («index_validity» .entry)) ⌝ }
 {
     if !first {
-        return Ranged {
-            checked: Checked::Fit,
-            outside: false,
-        };
+        return Checked::Fit;
     }
-    let outside = some_outside(rows, indices.width, indices.count, index_data);
-    let checked = check_bounds(rows, indices, index_data, index_validity, outside);
-    Ranged { checked, outside }
+    check_bounds(rows, indices, index_data, index_validity)
 }
 
 // The tests that are left after refusals 1 to 3, through overflow. The first column is tested for the range of the indices, a later one has as many rows.
@@ -99,7 +81,7 @@ pub fn check_column(
     first: bool,
 ) -> Through
     requires { ⌜ SizesPassed first (columnAt table «data» offsets validity) (indexColumnAt indices «index_data» «index_validity») ⌝ }
-    ensures { λ r. ⌜ RestToldOf first
+    ensures { λ r. ⌜ RestToldOf
         (columnAt table («data» .entry) (offsets .entry) (validity .entry))
         (indexColumnAt indices («index_data» .entry) («index_validity» .entry)) r ⌝ }
 {
@@ -107,8 +89,7 @@ pub fn check_column(
     let Checked::Fit = formed else {
         return stopped(formed);
     };
-    let ranged = check_range(first, table.rows, indices, index_data, index_validity);
-    let inside = ranged.checked;
+    let inside = check_range(first, table.rows, indices, index_data, index_validity);
     let Checked::Fit = inside else {
         return stopped(inside);
     };
@@ -123,11 +104,7 @@ pub fn check_column(
     );
     let checked = measured.checked;
     let needed = needed_lengths(table, indices.count, measured.total);
-    Through {
-        checked,
-        needed,
-        outside: ranged.outside,
-    }
+    Through { checked, needed }
 }
 
 // The data bytes of so many rows that are written; of variable width the last offset tells them, and no length is added up again.
@@ -152,14 +129,12 @@ pub fn take_column(
     indices: Indices,
     index_data: &[u8],
     index_validity: &[u8],
-    outside: bool,
     out_validity: &mut [u8],
     out_offsets: &mut [u8],
     out_data: &mut [u8],
 ) -> Taken
     requires { ⌜ Ready (columnAt table «data» offsets validity) (indexColumnAt indices «index_data» «index_validity») ⌝ }
     requires { ⌜ NoOverflow (columnAt table «data» offsets validity) (indexColumnAt indices «index_data» «index_validity») ⌝ }
-    requires { ⌜ outside ≡ someOutside (table .rows) (indexColumnAt indices «index_data» «index_validity») ⌝ }
     requires { ⌜ HasRoomFor (taken (columnAt table «data» offsets validity) (indexColumnAt indices «index_data» «index_validity»))
         (outputAt «out_validity» «out_offsets» «out_data») ⌝ }
     ensures told { λ r. ⌜ r ≡ takenOf (taken
@@ -187,7 +162,7 @@ pub fn take_column(
         indices,
         index_data,
         index_validity,
-        outside,
+        nulls,
         out_validity,
         out_offsets,
         out_data,

@@ -23,7 +23,6 @@ ghost use Rattle.tables.specs.Bodies.{columnIn};
 ghost use Rattle.gathers.specs.Taken.{taken};
 ghost use Rattle.gathers.specs.Stored.{outputAt, store};
 ghost use Rattle.gathers.specs.Ready.{InRange, Ready, NoOverflow};
-ghost use Rattle.gathers.specs.Buffers.{someOutside};
 ghost use Rattle.described.specs.Told.{statedLengths, testedIndices, testedLengths, ToldOf};
 ghost use Rattle.described.specs.Taken.{takenOf, HasRoomFor};
 
@@ -83,7 +82,7 @@ pub fn check_described(
     first: bool,
 ) -> Through
     requires { ⌜ (first ≡ false → InRange (d .table .rows) (indexColumnAt indices «index_data» «index_validity»)) ⌝ }
-    ensures { λ r. ⌜ ToldOf first (columnIn (now (body .entry)) d) (indexColumnAt indices («index_data» .entry) («index_validity» .entry)) r ⌝ }
+    ensures { λ r. ⌜ ToldOf (columnIn (now (body .entry)) d) (indexColumnAt indices («index_data» .entry) («index_validity» .entry)) r ⌝ }
 {
     let table = d.table;
     let uses = uses_of(kind_of(table.kind));
@@ -116,14 +115,12 @@ pub fn take_described(
     indices: Indices,
     index_data: &[u8],
     index_validity: &[u8],
-    outside: bool,
     out_validity: &mut [u8],
     out_offsets: &mut [u8],
     out_data: &mut [u8],
 ) -> Taken
     requires { ⌜ Ready (columnIn (now body) d) (indexColumnAt indices «index_data» «index_validity») ⌝ }
     requires { ⌜ NoOverflow (columnIn (now body) d) (indexColumnAt indices «index_data» «index_validity») ⌝ }
-    requires { ⌜ outside ≡ someOutside (d .table .rows) (indexColumnAt indices «index_data» «index_validity») ⌝ }
     requires { ⌜ HasRoomFor (taken (columnIn (now body) d) (indexColumnAt indices «index_data» «index_validity»)) (outputAt «out_validity» «out_offsets» «out_data») ⌝ }
     ensures told { λ r. ⌜ r ≡ takenOf (taken (columnIn (now (body .entry)) d) (indexColumnAt indices («index_data» .entry) («index_validity» .entry))) ⌝ }
     ensures stored { λ _. ⌜ outputAt («out_validity» .exit) («out_offsets» .exit) («out_data» .exit)
@@ -143,7 +140,6 @@ pub fn take_described(
         indices,
         index_data,
         index_validity,
-        outside,
         out_validity,
         out_offsets,
         out_data,

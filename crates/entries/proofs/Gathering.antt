@@ -1,7 +1,8 @@
 -- The first refusal and the gather by what the stages answer: the laws that `check` and `take` cite at each return. Assumes nothing.
-use mathlib.Core.Path.{_≡_, refl, sym, ap, _∙_, subst}
-use mathlib.Core.Bool.{Bool, true, false, true≢false}
+use mathlib.Core.Path.{_≡_, sym, ap, _∙_}
+use mathlib.Core.Bool.{true, false, true≢false}
 use Prim.Native.Nat.{ℕ}
+use Rattle.tables.specs.declared.refusal.Answer.{Answer}
 use Rattle.tables.specs.declared.refusal.Checked.{Checked}
 use Rattle.tables.specs.declared.refusal.Checked.the-variants.{Fit, Unfit}
 use Rattle.tables.specs.declared.refusal.Refusal.{Refusal}
@@ -14,17 +15,14 @@ use Rattle.gathers.specs.Taken.{taken}
 use Rattle.gathers.specs.Stored.{Output, lentLengths, store}
 use Rattle.gathers.specs.Gather.{spaceLines, throughLines, refusals, Outcome, gather}
 use Rattle.gathers.specs.Ready.{InRange, Ready, NoOverflow}
-use Rattle.gathers.specs.Buffers.{someOutside}
 use Rattle.stages.specs.Space.{lengthsRefusal}
 use Rattle.described.specs.declared.column.Through.{Through}
 use Rattle.described.specs.declared.column.Taken.{Taken}
 use Rattle.described.specs.Told.{SizesPassed, RestToldOf, ToldOf}
 use Rattle.described.specs.Taken.{takenOf, HasRoomFor}
-use Rattle.entries.specs.declared.check.Tested.{Tested}
 use Rattle.entries.specs.Entry.{Gathers}
-use Rattle.entries.specs.Tested.{stoppedAt, Told}
 use Rattle.stages.proofs.Spaces.{lengthsRefusal-lines}
-use Rattle.described.proofs.Columns.{refuses, lets-pass, not-fit}
+use Rattle.described.proofs.Columns.{refuses, lets-pass}
 use Rattle.described.proofs.Placed.{sizes-passed-by, all-told, sizes-stopped}
 use Rattle.tables.proofs.Stages.{refusing, stage-refused, form-passed}
 use Rattle.gathers.proofs.Stages.{Passed as AllPassed, all-passed, by-space, stops-form, gather-refused, gather-stored, enough, spaceRefusal-lines, gathered-by}
@@ -40,38 +38,28 @@ module _ (c : Column) (x : IndexColumn) where
 
   -- ---- the tests, stage by stage
 
-  -- what the tests answer
-  abbrev Answers : Output → Tested → Type 0
-  Answers o t = (checkedNumbers (t .checked) ≡ firstOf (refusals c x o)) × Told c x t
-
-  stopped : (o : Output) {s : Checked} {r : Refusal} {t : Tested} → s ≡ Unfit r → t ≡ stoppedAt s → checkedNumbers s ≡ firstOf (refusals c x o) → Answers o t
-  stopped o f d e = subst (Answers o) (sym d) (e, λ g. not-fit f g)
-
-  pub sizes-refused : (o : Output) {s : Checked} {r : Refusal} {t : Tested} → checkedNumbers s ≡ sizesRefusal c x → s ≡ Unfit r → t ≡ stoppedAt s → Answers o t
-  sizes-refused o e f d = let g = stage-refused c x e f in stopped o f d (g ∙ stops-form c x o (refuses g f))
+  pub sizes-refused : (o : Output) {s : Checked} {r : Refusal} → checkedNumbers s ≡ sizesRefusal c x → s ≡ Unfit r → checkedNumbers s ≡ firstOf (refusals c x o)
+  sizes-refused o e f = let g = stage-refused c x e f in g ∙ stops-form c x o (refuses g f)
 
   module _ {s : Checked} (se : checkedNumbers s ≡ sizesRefusal c x) (sf : s ≡ Fit) where
     pub sizes-passed : SizesPassed true c x
     sizes-passed = sizes-passed-by c x true alone se sf
 
-    module _ (m : Through) (me : RestToldOf true c x m) where
-      through : ToldOf true c x m
+    module _ (m : Through) (me : RestToldOf c x m) where
+      through : ToldOf c x m
       through = all-told c x true alone se sf m me
 
-      pub through-refused : (o : Output) {r : Refusal} {t : Tested} → m .checked ≡ Unfit r → t ≡ stoppedAt (m .checked) → Answers o t
-      through-refused o f d = let n = refuses (through .0) f in stopped o f d (through .0 ∙ rw (by-space c x o, n))
+      pub through-refused : (o : Output) {r : Refusal} → m .checked ≡ Unfit r → checkedNumbers (m .checked) ≡ firstOf (refusals c x o)
+      through-refused o f = let n = refuses (through .0) f in through .0 ∙ rw (by-space c x o, n)
 
-      pub all-tested : m .checked ≡ Fit → (o : Output) {w : Checked} → checkedNumbers w ≡ lengthsRefusal (m .needed) (lentLengths o)
-          → Answers o (record { checked = w; outside = m .outside })
+      pub all-tested : m .checked ≡ Fit → (o : Output) {a : Answer} → a ≡ lengthsRefusal (m .needed) (lentLengths o) → a ≡ firstOf (refusals c x o)
       all-tested mf o e =
-          let n = lets-pass (through .0) mf in (
-            e
-                ∙ lengthsRefusal-lines (m .needed) (lentLengths o)
-                ∙ ap (λ (k : Lengths). firstOf (spaceLines k (lentLengths o))) (through .1 mf .0)
-                ∙ sym (spaceRefusal-lines v o)
-                ∙ rw (by-space c x o, n),
-            λ f. through .1 mf .1,
-          )
+          let n = lets-pass (through .0) mf in
+          e
+          ∙ lengthsRefusal-lines (m .needed) (lentLengths o)
+          ∙ ap (λ (k : Lengths). firstOf (spaceLines k (lentLengths o))) (through .1 mf)
+          ∙ sym (spaceRefusal-lines v o)
+          ∙ rw (by-space c x o, n)
 
   -- ---- the gather, by what the tests answer
 
@@ -79,13 +67,13 @@ module _ (c : Column) (x : IndexColumn) where
   pub both : (o : Output) {g : Outcome} → g ≡ gather c x o → Gathers gather c x o g
   both o e = record { right = e; private = λ w. e ∙ gather-blank c x w o }
 
-  module _ (o : Output) {t : Tested} (e : Answers o t) where
-    pub turned-away : {r : Refusal} → t .checked ≡ Unfit r → record { answer = refusalNumbers r; output = o } ≡ gather c x o
-    turned-away {r} f = gather-refused c x o (sym (ap checkedNumbers f) ∙ e .0) (refusing r)
+  module _ (o : Output) {t : Checked} (e : checkedNumbers t ≡ firstOf (refusals c x o)) where
+    pub turned-away : {r : Refusal} → t ≡ Unfit r → record { answer = refusalNumbers r; output = o } ≡ gather c x o
+    turned-away {r} f = gather-refused c x o (sym (ap checkedNumbers f) ∙ e) (refusing r)
 
-    module _ (f : t .checked ≡ Fit) where
+    module _ (f : t ≡ Fit) where
       passed : passes (firstOf (refusals c x o)) ≡ true
-      passed = ap passes (sym (e .0) ∙ ap checkedNumbers f)
+      passed = ap passes (sym e ∙ ap checkedNumbers f)
 
       stages : AllPassed c x o
       stages = all-passed c x o passed
@@ -94,9 +82,6 @@ module _ (c : Column) (x : IndexColumn) where
       ready =
           let form = form-passed c x (stages .form) in
           record { column = form .0; indices = record { passed = form .1; range = stages .range } }
-
-      pub outside-told : t .outside ≡ someOutside (c .table .rows) x
-      outside-told = e .1 f
 
       pub overflow-passed : NoOverflow c x
       overflow-passed = stages .overflow

@@ -14,23 +14,6 @@ ghost use Rattle.tables.specs.Answers.{firstOf};
 ghost use Rattle.tables.specs.Stages.{checkedNumbers};
 ghost use Rattle.gathers.specs.Stored.{outputAt};
 ghost use Rattle.gathers.specs.Gather.{refusals};
-ghost use Rattle.entries.specs.Tested.{stoppedAt, Told};
-
-// The first refusal. Where there is none, `outside` says whether some number of the indices, then one under a null index, is that of no row.
-pub struct Tested {
-    pub checked: Checked,
-    pub outside: bool,
-}
-
-// A stage's refusal, passed up unchanged.
-fn stopped(checked: Checked) -> Tested
-    ensures { λ r. ⌜ r ≡ stoppedAt checked ⌝ }
-{
-    Tested {
-        checked,
-        outside: false,
-    }
-}
 
 // Of the outputs only the lengths are looked at.
 pub fn check(
@@ -44,14 +27,11 @@ pub fn check(
     out_validity: &[u8],
     out_offsets: &[u8],
     out_data: &[u8],
-) -> Tested
-    ensures first { λ r. ⌜ checkedNumbers (r .checked) ≡ firstOf (refusals
+) -> Checked
+    ensures { λ r. ⌜ checkedNumbers r ≡ firstOf (refusals
         (columnAt table («data» .entry) (offsets .entry) (validity .entry))
         (indexColumnAt indices («index_data» .entry) («index_validity» .entry))
         (outputAt («out_validity» .entry) («out_offsets» .entry) («out_data» .entry))) ⌝ }
-    ensures told { λ r. ⌜ Told
-        (columnAt table («data» .entry) (offsets .entry) (validity .entry))
-        (indexColumnAt indices («index_data» .entry) («index_validity» .entry)) r ⌝ }
 {
     let lengths = Lengths {
         data: data.len() as u64,
@@ -64,7 +44,7 @@ pub fn check(
     };
     let sizes = check_sizes(table, false, lengths, indices, index_lengths);
     let Checked::Fit = sizes else {
-        return stopped(sizes);
+        return sizes;
     };
     let through = check_column(
         table,
@@ -79,16 +59,12 @@ pub fn check(
     let counted = through.checked;
     let needed = through.needed;
     let Checked::Fit = counted else {
-        return stopped(counted);
+        return counted;
     };
     let lent = Lengths {
         validity: out_validity.len() as u64,
         offsets: out_offsets.len() as u64,
         data: out_data.len() as u64,
     };
-    let spaced = check_space(needed, lent);
-    Tested {
-        checked: spaced,
-        outside: through.outside,
-    }
+    check_space(needed, lent)
 }

@@ -30,7 +30,7 @@ pub fn take(
         (outputAt («out_validity» .entry) («out_offsets» .entry) («out_data» .entry))
         (outcome (answeredNumbers r) (outputAt («out_validity» .exit) («out_offsets» .exit) («out_data» .exit))) ⌝ }
 {
-    let tested = check(
+    let checked = check(
         table,
         data,
         offsets,
@@ -42,7 +42,6 @@ pub fn take(
         out_offsets,
         out_data,
     );
-    let checked = tested.checked;
     let Checked::Unfit(refusal) = checked else {
         let taken = take_column(
             table,
@@ -52,7 +51,6 @@ pub fn take(
             indices,
             index_data,
             index_validity,
-            tested.outside,
             out_validity,
             out_offsets,
             out_data,

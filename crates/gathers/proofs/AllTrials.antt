@@ -12,7 +12,7 @@ use Rattle.tables.specs.Kinds.{kindOf, isIndexWidth}
 use Rattle.tables.specs.Columns.{kindAt, layoutAt, offsetAt, indexValid, index}
 use Rattle.tables.specs.Refusals.{indexRefusal}
 use Rattle.tables.specs.Rows.{rowsOf}
-use Rattle.gathers.specs.Taken.{takenValid, names}
+use Rattle.gathers.specs.Taken.{pickedValid}
 use Rattle.gathers.specs.Stored.{validityBytes, startOf, offsetBytes, dataBytes, dataLength, nullCount, store}
 use Rattle.gathers.specs.Gather.{outOfRange, overflowAt, throughLines, refusals, gathered, gather}
 use Rattle.gathers.specs.Blank.{reached, blank}
@@ -20,7 +20,7 @@ use Rattle.gathers.specs.Trials.{run, expected, Hold, marked, more, runB
 
 -- what a trial computes with: to unfold this name is to unfold them all
 computed : Unit {0}
-unfolding numberAt bitAt byteOf packBytes pack replaceBits validAt kindOf kindAt layoutAt offsetAt indexRefusal indexValid index rowsOf takenValid names validityBytes startOf offsetBytes dataBytes dataLength nullCount overflowAt store gathered throughLines refusals outOfRange gather reached blank
+unfolding numberAt bitAt byteOf packBytes pack replaceBits validAt kindOf kindAt layoutAt offsetAt indexRefusal indexValid index rowsOf pickedValid validityBytes startOf offsetBytes dataBytes dataLength nullCount overflowAt store gathered throughLines refusals outOfRange gather reached blank
 computed = tt
 
 -- what holds at the four index widths holds at each

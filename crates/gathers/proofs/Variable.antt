@@ -40,9 +40,9 @@ running-good u d e width offset held small i h =
     (le-ltb (length (d .«data») / u) (offsetAt d i) (omega arith))
 
 module _ (u : ℕ) (c : Column) (r : VariableFacts u c) where
-  module _ (k : Kind) (un : Bool) (keep : ℕ → Bool) where
+  module _ (k : Kind) (keep : ℕ → Bool) where
     abbrev m : Rows
-    m = maskRows (rowsBy k un (VariableWidth u) c) keep
+    m = maskRows (rowsBy k (VariableWidth u) c) keep
 
     abbrev d : Column
     d = withRows c m

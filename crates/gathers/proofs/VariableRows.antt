@@ -19,7 +19,7 @@ use Rattle.tables.specs.Columns.{Column, IndexColumn, kindAt, layoutAt, offsetA
 use Rattle.tables.specs.Answers.{refuse, passes}
 use Rattle.tables.specs.Refusals.{maxRows, maxBytes}
 use Rattle.tables.specs.Rows.{Rows, rowsOf}
-use Rattle.gathers.specs.Taken.{takenValid, taken}
+use Rattle.gathers.specs.Taken.{pickedValid, taken}
 use Rattle.gathers.specs.Stored.{startOf, offsetBytes, dataBytes, offsetLength, dataLength}
 use Rattle.gathers.specs.Gather.{overflowAt, overflowTotal}
 use Rattle.gathers.specs.Stages.{overflowRefusal, measured}
@@ -43,26 +43,26 @@ module _ (c : Column) (x : IndexColumn) where
 
   module _ (u : ℕ) (e : layoutAt c ≡ VariableWidth u) where
     pub start-by-buffer : (j : ℕ) → startOf v j ≡ sum j (takenEntries c x)
-    unfolding startOf takenEntries takenValid takenBitValid
+    unfolding startOf takenEntries pickedValid takenBitValid
     start-by-buffer j = rw (rowsOf-by c, e)
 
     entries-by-buffer : (j : ℕ) → v .entries j ≡ takenEntries c x j
-    unfolding takenEntries takenValid takenBitValid
+    unfolding takenEntries pickedValid takenBitValid
     entries-by-buffer j = rw (rowsOf-by c, e)
 
     pub offsets-by-buffer : offsetBytes v ≡ concat (suc (x .indices .count)) (λ i. toLittleEndian (c .table .«offset_width») (sum i (takenEntries c x)))
-    unfolding offsetBytes startOf takenEntries takenValid takenBitValid
+    unfolding offsetBytes startOf takenEntries pickedValid takenBitValid
     offsets-by-buffer = rw (rowsOf-by c, e)
 
     pub variable-by-buffer : dataBytes (layoutAt c) v ≡ concat (x .indices .count) (takenBytes u c x)
-    unfolding dataBytes takenBytes takenValid takenBitValid
+    unfolding dataBytes takenBytes pickedValid takenBitValid
     variable-by-buffer = rw (rowsOf-by c, e)
 
     pub offset-length-by-buffer : offsetLength (layoutAt c) v ≡ suc (x .indices .count) * c .table .«offset_width»
     offset-length-by-buffer = rw (rowsOf-by c, e)
 
     pub data-length-by-buffer : dataLength (layoutAt c) v ≡ sum (x .indices .count) (takenEntries c x) * u
-    unfolding dataLength startOf takenEntries takenValid takenBitValid
+    unfolding dataLength startOf takenEntries pickedValid takenBitValid
     data-length-by-buffer = rw (rowsOf-by c, e)
 
   -- ---- one row
@@ -160,7 +160,7 @@ module _ (v : Rows) where
 module _ (c : Column) (x : IndexColumn) (u : ℕ) (e : layoutAt c ≡ VariableWidth u) where
   pub overflow-narrow : c .table .«offset_width» ≡ 4
       → overflowAt (layoutAt c) (taken c x) ≡ first (x .indices .count) (λ i. ltb 2_147_483_647 (sum (suc i) (takenEntries c x)))
-  unfolding overflowAt startOf takenEntries takenValid takenBitValid
+  unfolding overflowAt startOf takenEntries pickedValid takenBitValid
   overflow-narrow d = rw (rowsOf-by c, e, eq-eqb (c .table .«offset_width») 4 d)
 
   pub overflow-wide : (c .table .«offset_width» ≡ 4 → ⊥) → overflowAt (layoutAt c) (taken c x) ≡ x .indices .count

@@ -15,13 +15,14 @@ use Rattle.bits.specs.Bits.{bytesFor, isAbsent}
 use Rattle.tables.specs.declared.table.Kind.{Kind}
 use Rattle.tables.specs.declared.table.Layout.{Layout}
 use Rattle.tables.specs.declared.table.Layout.the-variants.{FixedWidth, BitMap, VariableWidth}
-use Rattle.tables.specs.Kinds.{copiesUnderNull}
 use Rattle.tables.specs.Columns.{Column, IndexColumn, kindAt, layoutAt, offsetAt, withRowsAt}
 use Rattle.tables.specs.Answers.{passes, firstOf}
 use Rattle.tables.specs.Refusals.{maxRows, maxBytes, dataShort, hasBadOffset, indexRefusal, WellFormed}
 use Rattle.tables.specs.Rows.{Rows, rowsBy, rowsOf}
 use Rattle.gathers.specs.Written.{ReadsAs, storedColumn, outputColumn, BeginsWith}
+use Rattle.tables.specs.Picks.{picksOf}
 use Rattle.gathers.specs.Taken.{takeRows, taken}
+use Rattle.gathers.specs.Alike.{SameRows}
 use Rattle.gathers.specs.Stored.{Output, validityBytes, startOf, offsetBytes, writtenOffsets, dataBytes, dataLength, store}
 use Rattle.gathers.specs.Gather.{outOfRange, throughLines, gathered, gather}
 use Rattle.gathers.specs.Stages.{overflowRefusal}
@@ -38,7 +39,7 @@ use Rattle.gathers.proofs.Cases.{gathered-through, gathered-stored}
 use Rattle.gathers.proofs.Regular.{regular-take, length-validity, length-offsets, length-data}
 use Rattle.gathers.proofs.Descriptions.{kind-with, number-with}
 use Rattle.gathers.proofs.Variable.{running-good}
-use Rattle.gathers.proofs.ReadBack.{withSlack, valid-back, offset-back, Storable, bytes-back, taken-storable}
+use Rattle.gathers.proofs.ReadBack.{withSlack, valid-back, offset-back, Storable, bytes-back, entries-back, taken-storable}
 
 -- ---- rows that can be stored make a well-formed column
 
@@ -106,11 +107,8 @@ module _ (c : Column) (x : IndexColumn) (passed : passes (firstOf (throughLines 
   abbrev l : Layout
   l = layoutAt c
 
-  abbrev un : Bool
-  un = copiesUnderNull k (c .table .size)
-
   abbrev v : Rows
-  v = takeRows (rowsBy k un l c) x
+  v = takeRows (rowsBy k l c) x
 
   through : PassedThrough c x
   through = passed-through c x passed
@@ -133,13 +131,13 @@ module _ (c : Column) (x : IndexColumn) (passed : passes (firstOf (throughLines 
   storable : Storable l (c .table .«offset_width») v
   storable =
       let w : passes (overflowRefusal v) ≡ true = rw (rowsOf-by c) at (through .overflow) in
-      taken-storable k un c x (index-formed x (form .1)) inside l rk wf (no-overflow v w)
+      taken-storable k c x (index-formed x (form .1)) inside l rk wf (no-overflow v w)
 
   pub storable-taken : Storable (layoutAt c) (c .table .«offset_width») (taken c x)
   storable-taken = rw (rowsOf-by c) storable
 
   held : length (dataBytes l v) ≡ dataLength l v
-  held = length-data v l (regular-take (rowsBy k un l c) x (regular-column k un l c rk wf) inside)
+  held = length-data v l (regular-take (rowsBy k l c) x (regular-column k l c rk wf) inside)
 
   -- as many bytes are written as are said to be needed
   pub data-held : length (dataBytes (taken c x .layout) (taken c x)) ≡ dataLength (taken c x .layout) (taken c x)
@@ -152,6 +150,20 @@ module _ (c : Column) (x : IndexColumn) (passed : passes (firstOf (throughLines 
   -- a column of exactly the bytes written has exactly the taken rows ..
   pub stored-reads : ReadsAs (rowsOf (storedColumn c (taken c x))) (taken c x)
   stored-reads = rw (rowsOf-by c, ← no-slack k c v few l) (slack-reads [] [] [])
+
+  -- .. of their kind and with their lengths: it gathers as any well-formed column of these rows does (`same-rows`) ..
+  pub stored-same : SameRows (taken c x) (rowsOf (storedColumn c (taken c x)))
+  stored-same =
+      rw (rowsOf-by c, ← no-slack k c v few l, rows-like c (withSlack l c v [] [] []) refl refl refl)
+      (record {
+        kind = refl;
+        layout = refl;
+        offsetWidth = refl;
+        count = refl;
+        valid = λ i h r. sym (valid-back c v [] [] [] i h);
+        entries = λ i h r t. sym (entries-back k c (picksOf x) [] [] [] l storable i h);
+        bytes = λ i h r t. sym (bytes-back c v [] [] [] l storable i h);
+      })
 
   -- .. and is well-formed, if its data is in the limit of a source. Its validity and its offsets are so in any case, for the rows are
   pub stored-well-formed : dataLength (taken c x .layout) (taken c x) ≤ maxBytes → WellFormed (storedColumn c (taken c x))
@@ -184,6 +196,9 @@ module _ (c : Column) (x : IndexColumn) (o : Output) (e : gather c x o .answer .
 
   pub gathered-reads : ReadsAs (rowsOf (storedColumn c (taken c x))) (taken c x)
   gathered-reads = stored-reads c x (gathered-through c x o e)
+
+  pub gathered-same : SameRows (taken c x) (rowsOf (storedColumn c (taken c x)))
+  gathered-same = stored-same c x (gathered-through c x o e)
 
   pub gathered-well-formed : gather c x o .answer .total ≤ maxBytes → WellFormed (storedColumn c (taken c x))
   unfolding gathered

@@ -1,15 +1,15 @@
 -- The validity of the taken rows, by what the rows and the indices have of validity. Assumes nothing.
-use mathlib.Core.Path.{_≡_, sym, ap, _∙_}
+use mathlib.Core.Path.{_≡_, refl, sym, ap, _∙_}
 use mathlib.Core.Bool.{Bool, true, false, not, _&&_}
-use mathlib.Core.List.{List}
+use mathlib.Core.List.{List, []}
 use Prim.Native.Nat.{ℕ, _+_}
 use lib.ListN.{length}
 use borrow.Author.Tests.{eqb-true, eq-eqb}
 use Rattle.bits.specs.Sequences.{sum}
-use Rattle.bits.specs.Bits.{bitValue, bitAt, pack, isAbsent}
+use Rattle.bits.specs.Bits.{bitValue, bitAt, pack, isAbsent, validAt}
 use Rattle.tables.specs.Columns.{IndexColumn}
 use Rattle.gathers.specs.Buffers.{takenBit, takenBitValid}
-use Rattle.bits.proofs.Tests.{and-true}
+use Rattle.bits.proofs.Tests.{and-right, and-true}
 use Rattle.bits.proofs.Sequences.{sum-zero}
 use Rattle.bits.proofs.Bits.{pack-cong, validAt-absent, validAt-present}
 use Rattle.tables.proofs.There.{index-valid}
@@ -17,8 +17,10 @@ use Rattle.gathers.proofs.Buffers.{valid-by-bit, valid-by-index}
 
 module _ (v : List ℕ) (b : ℕ) (x : IndexColumn) where
   -- the rows have one: its bits are gathered
-  pub by-bits : (length v ≡ 0 → ⊥) → pack (x .indices .count) (takenBit v b x) ≡ pack (x .indices .count) (takenBitValid v b x)
-  by-bits h = pack-cong (x .indices .count) (λ j l. sym (valid-by-bit v b x j h))
+  pub by-bits : (length v ≡ 0 → ⊥) → pack (x .indices .count) (λ j. takenBit v b x j && validAt [] 0 j) ≡ pack (x .indices .count) (takenBitValid v b x)
+  by-bits h =
+      pack-cong (x .indices .count)
+      (λ j l. ap (λ (t : Bool). takenBit v b x j && t) (validAt-absent [] 0 j refl) ∙ and-right (takenBit v b x j) ∙ sym (valid-by-bit v b x j h))
 
   -- only the indices have one: it is theirs
   pub index-present : length v ≡ 0 → (isAbsent v && isAbsent (x .validity)) ≡ false → isAbsent (x .validity) ≡ false

@@ -79,6 +79,7 @@ fn take_validity(
             indices,
             index_data,
             index_validity,
+            &index_validity[0..0],
             out_validity,
         );
         return;

@@ -10,14 +10,15 @@ use lib.ListN.{length}
 use borrow.Author.Tests.{ne-eqb, le-leb, lt-leb}
 use Rattle.bits.specs.Sequences.{any}
 use Rattle.bits.specs.Numbers.{numberAt, isNumberWidth}
-use Rattle.tables.specs.Columns.{IndexColumn}
-use Rattle.gathers.specs.Buffers.{someOutside}
+use Rattle.tables.specs.Columns.{IndexColumn, indexValid}
+use Rattle.tables.specs.Answers.{accept}
+use Rattle.gathers.specs.Stages.{rangeRefusal}
 use Rattle.range.specs.Outside.{numbersOutside}
-use Rattle.bits.proofs.Tests.{or-right}
-use Rattle.bits.proofs.Sequences.{any-cong, none-any}
+use Rattle.bits.proofs.Tests.{or-right, and-false-right}
+use Rattle.bits.proofs.Sequences.{any-cong, any-none, none-any}
 use Rattle.bits.proofs.Numbers.{AllBytes, numberAt-lt, by-width}
 use Rattle.tables.proofs.There.{index-number}
-use Rattle.gathers.proofs.Buffers.{outside-by}
+use Rattle.gathers.proofs.Stages.{range-accepted}
 
 -- compared at a literal width
 pub above-at : (v a b : ℕ) {w : ℕ} → w ≡ v → (a < 256 ^ w) × (b < 256 ^ w) → ltb (a % 256 ^ v) (b % 256 ^ v) ≡ ltb a b
@@ -56,6 +57,8 @@ module _ (n w count : ℕ) (s : List ℕ) where
     pub outside-at : {r : Bool} → r ≡ numbersOutside n v count s → r ≡ numbersOutside n w count s
     outside-at d = d ∙ ap (λ (k : ℕ). numbersOutside n k count s) (sym e)
 
--- what was found of the numbers of an index column
-pub outside-read : (n : ℕ) (x : IndexColumn) {r : Bool} → r ≡ numbersOutside n (x .indices .width) (x .indices .count) (x .«data») → r ≡ someOutside n x
-outside-read n x e = e ∙ outside-by n x (λ j h. ap (leb n) (sym (index-number x j)))
+-- where no number of an index column is outside, nothing is refused
+pub inside-range : (n : ℕ) (x : IndexColumn) → numbersOutside n (x .indices .width) (x .indices .count) (x .«data») ≡ false → accept ≡ rangeRefusal n x
+inside-range n x e =
+    sym (range-accepted n x
+    (λ j h. rw (index-number x j) (and-false-right (indexValid x j) (any-none (x .indices .count) (λ k. leb n (numberAt (x .indices .width) (x .«data») k)) e j h))))

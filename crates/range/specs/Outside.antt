@@ -1,4 +1,4 @@
--- What the comparison of the numbers of an index column finds. proofs/Numbers.antt shows that it is what `someOutside` says of the column.
+-- What the comparison of the numbers of an index column finds: whether there is anything for the range scan to find.
 use Prim.Native.Nat.{ℕ}
 use mathlib.Core.Bool.{Bool}
 use mathlib.Core.List.{List}

@@ -5,7 +5,7 @@ use Rattle.tables.specs.declared.table.Layout.{Layout}
 use Rattle.tables.specs.declared.table.Layout.the-variants.{FixedWidth, BitMap, VariableWidth}
 use Rattle.tables.specs.declared.refusal.Answer.{Answer}
 use Rattle.tables.specs.declared.table.Lengths.{Lengths}
-use Rattle.tables.specs.Kinds.{kindOf, layoutOf, copiesUnderNull}
+use Rattle.tables.specs.Kinds.{kindOf, layoutOf}
 use Rattle.tables.specs.Columns.{Column, IndexColumn, kindAt, layoutAt}
 use Rattle.tables.specs.Refusals.{WellFormed}
 use Rattle.tables.specs.Bounds.{RowFits, Bounds}
@@ -43,7 +43,7 @@ module _ (c : Column) where
     offsets-length = rw (rowsOf-by c) (go (layoutAt c))
       where
         go : (l : Layout) → offsetBytesFor l (c .table .«offset_width») (x .indices .count)
-            ≡ offsetLength l (takeRows (rowsBy (kindAt c) (copiesUnderNull (kindAt c) (c .table .size)) l c) x)
+            ≡ offsetLength l (takeRows (rowsBy (kindAt c) l c) x)
         go (FixedWidth n) = refl
         go BitMap = refl
         go (VariableWidth u) = refl

@@ -9,8 +9,9 @@ use hoglidra::raw::{self, BatchCall, Call, Record};
 use hoglidra::{Batch, Description, Extent, Indices, Kind, Output};
 
 use crate::case::{Layout, Nulls, Order, Size, MIDDLE, SMALL};
-use crate::input::{bitmap, counted_nulls, validity, Buffer, Random};
+use crate::input::{bitmap, counted_nulls, Buffer, Random};
 use crate::reference::{self, Array, Error, IndexArray, Taken};
+use crate::written;
 
 /// Indices have 4 bytes and are in random order.
 const INDEX_WIDTH: usize = 4;
@@ -213,7 +214,7 @@ impl BatchInput {
         Rust { arrays: (0..self.columns.len()).map(array).collect(), indices }
     }
 
-    /// Stops unless all three give the same rows, byte for byte.
+    /// Stops unless all three give the same rows, byte for byte, and ours zeros below null rows.
     pub fn compare(&mut self) {
         let case = self.case;
         let [number, _, total, nulls] = self.ours().take();
@@ -229,10 +230,13 @@ impl BatchInput {
         let count = case.size.count;
         let batch = Batch { columns: &self.columns, body: self.body.bytes() };
         let (mut taken_nulls, mut taken_bytes) = (0, 0);
-        for (taken, part) in taken.iter().zip(batch.parts(count, offsets.bytes())) {
-            assert!(bits.bytes()[part.validity] == *validity(taken, count), "{case}: validity");
+        let parts = self.columns.iter().zip(batch.parts(count, offsets.bytes()));
+        for (taken, (column, part)) in taken.iter().zip(parts) {
+            let validity = written::validity(taken, count);
+            assert!(bits.bytes()[part.validity] == *validity, "{case}: validity");
             assert!(&offsets.bytes()[part.offsets] == taken.offsets.bytes(), "{case}: offsets");
-            assert!(&data.bytes()[part.data] == taken.data.bytes(), "{case}: data");
+            let written = written::data(taken, column.kind, count);
+            assert!(data.bytes()[part.data] == written, "{case}: data");
             taken_nulls += taken.nulls.as_ref().map_or(0, |nulls| nulls.null_count);
             taken_bytes += taken.data.bytes().len();
         }

@@ -9,6 +9,7 @@ use hoglidra::{Bitmap, Column, Indices, Kind, Output};
 use crate::arrow;
 use crate::case::{Case, Layout, Order};
 use crate::reference::{self, Array, Error, IndexArray, Taken};
+use crate::written;
 
 /// Bytes that start on a cache line, as arrow allocates them.
 pub struct Buffer {
@@ -177,7 +178,7 @@ impl Input {
         Rust { array, indices }
     }
 
-    /// Stops unless both sides give the same rows, byte for byte.
+    /// Stops unless both sides give the same rows, byte for byte, and ours zeros below null rows.
     pub fn compare(&mut self) {
         let case = self.case;
         let [number, _, total, null_count] = self.ours().take();
@@ -188,9 +189,11 @@ impl Input {
             let size = reference::size(&rust.array, &rust.indices);
             assert_eq!(size.ok(), Some(taken.data.bytes().len()), "{case}: size");
         }
-        assert!(self.out_validity.bytes() == &*validity(&taken, case.count), "{case}: validity");
+        let validity = written::validity(&taken, case.count);
+        assert!(self.out_validity.bytes() == &*validity, "{case}: validity");
         assert!(self.out_offsets.bytes() == taken.offsets.bytes(), "{case}: offsets");
-        assert!(self.out_data.bytes() == taken.data.bytes(), "{case}: data");
+        let data = written::data(&taken, case.layout.kind, case.count);
+        assert!(self.out_data.bytes() == data, "{case}: data");
         assert_eq!(total as usize, taken.data.bytes().len(), "{case}: total");
         assert_eq!(null_count as usize, taken.nulls.map_or(0, |nulls| nulls.null_count), "{case}");
     }
@@ -241,20 +244,6 @@ fn runs(
         offsets.extend_from_slice(&end.to_le_bytes()[..offset_width]);
     }
     (random.bytes(end as usize * unit), offsets)
-}
-
-/// The validity of what the Rust side took: ones where it has none.
-pub fn validity<'a>(taken: &'a Taken, count: usize) -> Cow<'a, [u8]> {
-    match &taken.nulls {
-        Some(nulls) => Cow::Borrowed(&nulls.bits),
-        None => {
-            let mut bits = vec![0xFF; count.div_ceil(8)];
-            if count % 8 != 0 {
-                bits[count / 8] = (1 << (count % 8)) - 1;
-            }
-            Cow::Owned(bits)
-        }
-    }
 }
 
 pub fn bitmap(validity: &Option<Buffer>) -> Option<Bitmap<'_>> {

@@ -14,6 +14,7 @@ mod instructions;
 mod reference;
 mod report;
 mod timing;
+mod written;
 
 use std::env;
 

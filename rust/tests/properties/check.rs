@@ -17,6 +17,10 @@ pub const SPACE: [&str; 3] = ["7 place 1", "7 place 2", "7 place 3"];
 #[derive(Default)]
 pub struct Tally(BTreeMap<String, u64>);
 
+/// How many answers of the Rust, by kind, have other bytes than zeros below a null row.
+#[derive(Default)]
+pub struct Zeroed([u64; 7]);
+
 /// Seeds of one test, apart from those of the others.
 pub fn randoms(test: u64, count: u64) -> impl Iterator<Item = Random> {
     (0..count).map(move |i| Random::new(test << 32 | i))
@@ -84,6 +88,23 @@ impl Tally {
         for answer in answers {
             let met = self.0.get(*answer).copied().unwrap_or_default();
             assert!(met >= least, "{test}: answer {answer} met {met} times");
+        }
+    }
+}
+
+impl Zeroed {
+    pub fn add(&mut self, kind: u64, zeroed: bool) {
+        self.0[kind as usize] += u64::from(zeroed);
+    }
+
+    /// Prints the counts, and asserts that kinds 1, 2, 5 and 6 have at least that many, and kinds 3
+    /// and 4 none.
+    pub fn expect(&self, test: &str, least: u64) {
+        let [_, kinds @ ..] = self.0;
+        println!("{test}: zeroed below null rows, by kind: {kinds:?}");
+        for (kind, zeroed) in (1..).zip(kinds) {
+            let fit = if matches!(kind, 3 | 4) { zeroed == 0 } else { zeroed >= least };
+            assert!(fit, "{test}: {zeroed} of kind {kind} were zeroed");
         }
     }
 }

@@ -1,5 +1,6 @@
 //! The archive against an independent model of the gather, and against the loops of `take.rs`, on
-//! generated columns and batches of them, byte for byte.
+//! generated columns and batches of them, byte for byte; where the loops leave something below a null
+//! row, zeros are asked for.
 
 mod archive;
 #[path = "../../benches/take/arrow.rs"]
@@ -12,6 +13,7 @@ mod generate;
 mod limits;
 mod loops;
 mod model;
+mod nulls;
 mod overflow;
 mod privacy;
 mod published;
@@ -19,3 +21,5 @@ mod random;
 #[path = "../../benches/take/reference.rs"]
 mod reference;
 mod well_formed;
+#[path = "../../benches/take/written.rs"]
+mod written;

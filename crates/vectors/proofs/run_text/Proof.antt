@@ -6,10 +6,10 @@ use Rattle.vectors.proofs.run_text.Statement.{statement}
 use Rattle.vectors.proofs.run_text.Tie as tie
 
 abbrev Inv-loop : tie.InvT-loop
-Inv-loop name text tally₀ number₀ from₀ tally number from = from ≤ length text
+Inv-loop name text published tally₀ number₀ from₀ tally number from = from ≤ length text
 
 abbrev μ-loop : tie.MeasureT-loop
-μ-loop name text tally₀ number₀ from₀ tally number from = length text - from
+μ-loop name text published tally₀ number₀ from₀ tally number from = length text - from
 
 loop-holds : tie.Need-loop-holds Inv-loop μ-loop
 loop-holds c = search needs

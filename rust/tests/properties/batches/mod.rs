@@ -3,6 +3,7 @@
 mod damage;
 mod edges;
 mod generate;
+mod nulls;
 mod overflow;
 mod parts;
 mod privacy;

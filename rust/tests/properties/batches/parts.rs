@@ -1,7 +1,7 @@
 //! A batch against gathers of its columns one by one, and the helpers that find a column again in
 //! the joined outputs.
 
-use hoglidra::{Batch, Column};
+use hoglidra::{Batch, Column, Part};
 
 use super::generate;
 use crate::archive::{self, descriptions};
@@ -17,6 +17,16 @@ fn alone(case: &BatchCase, table: Table) -> Case {
         indices: case.indices.clone(),
         lent: case.lent.clone(),
         answer: case.answer.clone(),
+    }
+}
+
+/// A column's part of the joined outputs.
+pub fn own(joined: &Lent, part: &Part) -> Lent {
+    let Part { validity, offsets, data } = part.clone();
+    Lent {
+        validity: Bytes(joined.validity[validity].to_vec()),
+        offsets: Bytes(joined.offsets[offsets].to_vec()),
+        data: Bytes(joined.data[data].to_vec()),
     }
 }
 
@@ -39,15 +49,10 @@ fn parts_are_what_separate_gathers_write() {
         let (mut total, mut nulls) = (0, 0);
         let mut ends = [0; 3];
         for (k, (table, _)) in model::columns(&case).into_iter().enumerate() {
-            let Lent { validity, offsets, data } = &seen.lent;
             let part = &parts[k];
             assert_eq!(ends, [part.validity.start, part.offsets.start, part.data.start]);
             ends = [part.validity.end, part.offsets.end, part.data.end];
-            let own = Lent {
-                validity: Bytes(validity[part.validity.clone()].to_vec()),
-                offsets: Bytes(offsets[part.offsets.clone()].to_vec()),
-                data: Bytes(data[part.data.clone()].to_vec()),
-            };
+            let own = own(&seen.lent, part);
             // Lent exactly as many bytes, it writes them all.
             let mut alone = alone(&case, table);
             alone.lent = Lent {

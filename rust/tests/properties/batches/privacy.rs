@@ -1,5 +1,6 @@
-//! Rows of a well-formed column that no index reaches, bytes of the body that no column needs, and
-//! what follows the records leave no trace, whatever the columns beside it are.
+//! Rows of a well-formed column that no valid index names, what lies below its null rows, numbers
+//! under null indices, bytes of the body that no column needs, and what follows the records leave no
+//! trace, whatever the columns beside it are.
 
 use hoglidra::raw::Record;
 
@@ -10,11 +11,14 @@ use crate::case::{BatchCase, Bytes, Descriptions, IndexColumn, Seen, Table};
 use crate::check::{check_batch, randoms, Tally};
 use crate::damage::{damage_indices, damage_table};
 use crate::model;
-use crate::privacy::refilled_table;
+use crate::privacy::{copy_below_nulls, refilled_table, renumbered_indices};
 use crate::random::Random;
 
-/// Makes another column of which as much must be seen as of the given one, which is well-formed.
-type Twin = fn(&mut Random, &Table, &IndexColumn) -> Table;
+/// Makes another call of which as much must be seen as of the given one.
+type Twin = fn(&mut Random, &BatchCase) -> BatchCase;
+
+/// The same of a column, which is well-formed.
+type ColumnTwin = fn(&mut Random, &Table, &IndexColumn) -> Table;
 
 /// A gather as a function of all that it is given.
 type Gather = fn(&BatchCase) -> Seen;
@@ -46,7 +50,7 @@ fn case(random: &mut Random) -> BatchCase {
 
 /// The batch with each well-formed column's twin in its place, with buffers of its own. The others
 /// keep their bytes and lie as far from the body's end as before; every other byte is another.
-fn twin(random: &mut Random, case: &BatchCase, twin: Twin) -> BatchCase {
+fn column_twins(random: &mut Random, case: &BatchCase, twin: ColumnTwin) -> BatchCase {
     if case.columns > case.descriptions.whole() as u64 {
         return case.clone();
     }
@@ -76,6 +80,20 @@ fn twin(random: &mut Random, case: &BatchCase, twin: Twin) -> BatchCase {
     BatchCase { descriptions, body, ..case.clone() }
 }
 
+fn blanked(random: &mut Random, case: &BatchCase) -> BatchCase {
+    column_twins(random, case, |_, table, indices| model::blanked(table, indices))
+}
+
+fn refilled(random: &mut Random, case: &BatchCase) -> BatchCase {
+    column_twins(random, case, refilled_table)
+}
+
+/// Other numbers under null indices.
+fn renumbered(random: &mut Random, case: &BatchCase) -> BatchCase {
+    let rows = case.descriptions.get(0).rows;
+    BatchCase { indices: renumbered_indices(random, &case.indices, rows), ..case.clone() }
+}
+
 /// A record whose extents lie `before` bytes later, and the bytes of the body that they hold.
 fn moved(mut record: Record, old: &Bytes, body: &mut Bytes, before: usize) -> Record {
     for extent in extents(&mut record) {
@@ -88,11 +106,11 @@ fn moved(mut record: Record, old: &Bytes, body: &mut Bytes, before: usize) -> Re
 }
 
 /// The archive tells nothing apart, and on both calls it does what the model does.
-fn leaves_no_trace(test: u64, name: &str, change: Twin) {
+fn leaves_no_trace(test: u64, name: &str, twin: Twin) {
     let mut tally = Tally::default();
     for mut random in randoms(test, 20_000) {
         let case = case(&mut random);
-        let twin = twin(&mut random, &case, change);
+        let twin = twin(&mut random, &case);
         let same = archive::gather_batch(&case) == archive::gather_batch(&twin);
         assert!(same, "seed {:#x}\n{case:#?}\ntwin {twin:#?}", random.seed);
         check_batch(random.seed, &twin);
@@ -118,12 +136,17 @@ fn leaves_no_trace(test: u64, name: &str, change: Twin) {
 
 #[test]
 fn blanking_unreached_rows_of_each_column_changes_nothing() {
-    leaves_no_trace(41, "blanked batches", |_, table, indices| model::blanked(table, indices));
+    leaves_no_trace(41, "blanked batches", blanked);
 }
 
 #[test]
-fn refilling_unreached_rows_of_each_column_changes_nothing() {
-    leaves_no_trace(42, "refilled batches", refilled_table);
+fn refilling_unreached_and_null_rows_of_each_column_changes_nothing() {
+    leaves_no_trace(42, "refilled batches", refilled);
+}
+
+#[test]
+fn numbers_under_null_indices_change_nothing() {
+    leaves_no_trace(49, "renumbered batches", renumbered);
 }
 
 #[test]
@@ -131,7 +154,7 @@ fn blanking_changes_no_overflow() {
     let mut tally = Tally::default();
     for mut random in randoms(43, 60) {
         let case = overflow::case(&mut random);
-        let blank = twin(&mut random, &case, |_, table, indices| model::blanked(table, indices));
+        let blank = blanked(&mut random, &case);
         assert!(archive::gather_batch(&case) == archive::gather_batch(&blank));
         check_batch(random.seed, &blank);
         tally.add_batch(&check_batch(random.seed, &case));
@@ -139,42 +162,72 @@ fn blanking_changes_no_overflow() {
     tally.expect("blanked batches of long rows", 3, &["6 first", "6 later"]);
 }
 
-/// Gathers that leak, each of which a twin must give away.
-const LEAKS: [(&str, Gather); 3] = [
-    ("the body's length", |case| {
-        let (mut seen, _) = model::gather_batch(case);
-        if matches!(seen.returned, 5 | 7) {
-            seen.answer[24..32].copy_from_slice(&case.body.len().to_le_bytes());
-        }
-        seen
-    }),
-    ("a null of a column that is refused after it", |case| {
-        let (mut seen, at) = model::gather_batch(case);
-        if let Some(model::At::Column(1..)) = at {
-            let (first, _) = &model::columns(case)[0];
-            let nulls = model::rows(first).iter().filter(|row| !row.valid).count();
-            seen.answer[24..32].copy_from_slice(&nulls.to_le_bytes());
-        }
-        seen
-    }),
-    ("a byte of the neighbour", |case| {
-        let (mut seen, at) = model::gather_batch(case);
-        if let (None, [.., (last, _)]) = (at, model::columns(case).as_slice()) {
-            if let (Some(byte), Some(first)) = (last.data.first(), seen.lent.data.first_mut()) {
-                *first = *byte;
-            }
-        }
-        seen
-    }),
+/// Gathers that leak, each with a twin that must give it away.
+const LEAKS: [(&str, Gather, Twin); 8] = [
+    ("the body's length", tells_body_length, refilled),
+    ("a null of a column that is refused after it", tells_first_nulls, refilled),
+    ("a byte of the neighbour", writes_neighbour, refilled),
+    ("a row under a null index, blanked", follows_null_indices, blanked),
+    ("a row under a null index, refilled", follows_null_indices, refilled),
+    ("a row under a null index, renumbered", follows_null_indices, renumbered),
+    ("what lies below a null row, blanked", copies_null_rows, blanked),
+    ("what lies below a null row, refilled", copies_null_rows, refilled),
 ];
+
+fn tells_body_length(case: &BatchCase) -> Seen {
+    let (mut seen, _) = model::gather_batch(case);
+    if matches!(seen.returned, 5 | 7) {
+        seen.answer[24..32].copy_from_slice(&case.body.len().to_le_bytes());
+    }
+    seen
+}
+
+fn tells_first_nulls(case: &BatchCase) -> Seen {
+    let (mut seen, at) = model::gather_batch(case);
+    if let Some(model::At::Column(1..)) = at {
+        let (first, _) = &model::columns(case)[0];
+        let nulls = model::rows(first).iter().filter(|row| !row.valid).count();
+        seen.answer[24..32].copy_from_slice(&nulls.to_le_bytes());
+    }
+    seen
+}
+
+fn writes_neighbour(case: &BatchCase) -> Seen {
+    let (mut seen, at) = model::gather_batch(case);
+    if let (None, [.., (last, _)]) = (at, model::columns(case).as_slice()) {
+        if let (Some(byte), Some(first)) = (last.data.first(), seen.lent.data.first_mut()) {
+            *first = *byte;
+        }
+    }
+    seen
+}
+
+/// Copies a valid row of the first column whose number stands under a null index.
+fn follows_null_indices(case: &BatchCase) -> Seen {
+    copies_below_nulls(case, false)
+}
+
+/// Copies what lies below a null row of the first column that a valid index names.
+fn copies_null_rows(case: &BatchCase) -> Seen {
+    copies_below_nulls(case, true)
+}
+
+fn copies_below_nulls(case: &BatchCase, by_valid: bool) -> Seen {
+    let (mut seen, at) = model::gather_batch(case);
+    if at.is_none() {
+        let (first, _) = &model::columns(case)[0];
+        copy_below_nulls(first, &case.indices, by_valid, &mut seen.lent.data);
+    }
+    seen
+}
 
 #[test]
 fn leaks_would_be_seen() {
-    for (name, leak) in LEAKS {
+    for (name, leak, twin) in LEAKS {
         let mut told = 0;
         for mut random in randoms(44, 3000) {
             let case = case(&mut random);
-            let twin = twin(&mut random, &case, refilled_table);
+            let twin = twin(&mut random, &case);
             told += u64::from(leak(&case) != leak(&twin));
         }
         println!("leak of {name}: seen in {told} of 3000 batches");

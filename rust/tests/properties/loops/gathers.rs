@@ -1,28 +1,24 @@
 //! Columns of every kind: what the loops gather, and that they stop at an index out of bounds.
 
+use hoglidra::Kind;
+
 use super::arrays::Arrays;
 use crate::archive;
 use crate::case::{Bytes, Case, Lent, Seen};
-use crate::check::{agree, randoms, Tally, GATHERED};
+use crate::check::{agree, randoms, Tally, Zeroed, GATHERED};
 use crate::generate;
 use crate::model;
 use crate::random::Random;
 use crate::reference::{self, Error, Taken};
+use crate::written;
 
-/// The outputs that the loops make: where nothing is null, all ones stand for no validity.
-fn made(taken: &Taken, count: usize) -> Lent {
-    let all_valid = || {
-        let mut bits = vec![0xFF; count.div_ceil(8)];
-        if count % 8 != 0 {
-            bits[count / 8] = (1 << (count % 8)) - 1;
-        }
-        bits
-    };
-    let validity = taken.nulls.as_ref().map_or_else(all_valid, |nulls| nulls.bits.to_vec());
+/// The outputs that the loops make, as the archive writes them: ones stand for no validity, and zeros
+/// below null rows.
+fn made(taken: &Taken, kind: Kind, count: usize) -> Lent {
     Lent {
-        validity: Bytes(validity),
+        validity: Bytes(written::validity(taken, count).into_owned()),
         offsets: Bytes(taken.offsets.bytes().to_vec()),
-        data: Bytes(taken.data.bytes().to_vec()),
+        data: Bytes(written::data(taken, kind, count)),
     }
 }
 
@@ -36,8 +32,10 @@ fn lend(random: &mut Random, used: Bytes) -> (Bytes, Bytes) {
 }
 
 /// Compares the call with what the loops make of it.
-fn gathers(random: &mut Random, case: Case, taken: &Taken) -> Seen {
-    let made = made(taken, case.indices.count as usize);
+fn gathers(random: &mut Random, case: Case, taken: &Taken, zeroed: &mut Zeroed) -> Seen {
+    let kind = archive::kind(&case.table).expect("a known kind");
+    let made = made(taken, kind, case.indices.count as usize);
+    zeroed.add(case.table.kind, made.data[..] != *taken.data.bytes());
     let total = made.data.len() as u64;
     let nulls = taken.nulls.as_ref().map_or(0, |nulls| nulls.null_count) as u64;
     let (validity, written_validity) = lend(random, made.validity);
@@ -65,6 +63,7 @@ fn stops(seed: u64, case: &Case, arrays: &Arrays) -> Seen {
 #[test]
 fn gathers_what_the_loops_gather() {
     let mut tally = Tally::default();
+    let mut zeroed = Zeroed::default();
     for mut random in randoms(16, 30_000) {
         let case = generate::case(&mut random);
         let needed = model::needed(&case.table, &case.indices);
@@ -74,11 +73,12 @@ fn gathers_what_the_loops_gather() {
         let arrays = Arrays::new(&case);
         let (array, indices) = (arrays.array(), arrays.indices(case.indices.count));
         let seen = match reference::take(&array, &indices) {
-            Ok(taken) => gathers(&mut random, case.clone(), &taken),
+            Ok(taken) => gathers(&mut random, case.clone(), &taken, &mut zeroed),
             Err(Error::OutOfBounds) => stops(random.seed, &case, &arrays),
             Err(error) => panic!("seed {:#x}: {error}\n{case:#?}", random.seed),
         };
         tally.add(&case, &seen);
     }
     tally.expect("the loops of take.rs", 1000, &[&GATHERED[..], &["5"]].concat());
+    zeroed.expect("the loops of take.rs", 300);
 }

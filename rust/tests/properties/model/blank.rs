@@ -1,10 +1,10 @@
-//! The blanked table: each unreached row null, and empty or zero.
+//! The blanked table: each row that is unreached or null is null, and empty or zero.
 
-use super::rows::{follows_null, index, row_length, rows};
+use super::rows::{index, row_length, rows};
 use super::{index_refused, offsets, packed};
 use crate::case::{Bytes, IndexColumn, Table};
 
-/// Which rows of a well-formed table an index reaches.
+/// Which rows of a well-formed table a non-null index names.
 pub fn reached(table: &Table, indices: &IndexColumn) -> Vec<bool> {
     let mut reached = vec![false; table.rows as usize];
     if index_refused(indices) {
@@ -12,18 +12,22 @@ pub fn reached(table: &Table, indices: &IndexColumn) -> Vec<bool> {
     }
     for i in 0..indices.count {
         let (valid, number) = index(indices, i);
-        if number < table.rows && (valid || follows_null(table)) {
+        if valid && number < table.rows {
             reached[number as usize] = true;
         }
     }
     reached
 }
 
-/// A well-formed table with its unreached rows blanked.
+/// A well-formed table in which a row stays only if it is reached and valid.
 pub fn blanked(table: &Table, indices: &IndexColumn) -> Table {
-    let reached = reached(table, indices);
+    let stays: Vec<bool> = reached(table, indices)
+        .into_iter()
+        .zip(rows(table))
+        .map(|(reached, row)| reached && row.valid)
+        .collect();
     let mut blank = present_validity(table);
-    for i in (0..table.rows).filter(|&i| !reached[i as usize]) {
+    for i in (0..table.rows).filter(|&i| !stays[i as usize]) {
         clear_bit(&mut blank.validity, blank.validity_bit, i);
         match table.kind {
             2 => clear_bit(&mut blank.data, table.data_bit, i),
@@ -35,7 +39,7 @@ pub fn blanked(table: &Table, indices: &IndexColumn) -> Table {
         }
     }
     if matches!(table.kind, 3 | 4) {
-        keep_reached(table, &reached, &mut blank);
+        keep(table, &stays, &mut blank);
     }
     blank
 }
@@ -50,11 +54,11 @@ fn present_validity(table: &Table) -> Table {
     table
 }
 
-/// Offsets from 0 on, and the data of the reached rows alone, in row order.
-fn keep_reached(table: &Table, reached: &[bool], blank: &mut Table) {
+/// Offsets from 0 on, and the data of the rows that stay, in row order.
+fn keep(table: &Table, stays: &[bool], blank: &mut Table) {
     let mut rows = rows(table);
-    for (row, reached) in rows.iter_mut().zip(reached) {
-        if !reached {
+    for (row, stays) in rows.iter_mut().zip(stays) {
+        if !stays {
             row.bytes = &[];
         }
     }

@@ -1,7 +1,7 @@
-//! The gather as the paper defines it, plain and slow.
+//! The gather as the paper and its requests define it, plain and slow.
 //!
-//! It was written from the paper and the readings in docs/DECISIONS.md, without sight of the Rattle,
-//! so that it errs in other places than the archive does.
+//! It was written from these and the readings in docs/DECISIONS.md, without sight of the Rattle, so
+//! that it errs in other places than the archive does.
 
 mod batch;
 mod blank;

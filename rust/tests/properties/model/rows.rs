@@ -93,35 +93,22 @@ fn row_bytes(table: &Table, i: u64) -> &[u8] {
     &table.data[start as usize..end as usize]
 }
 
-/// Whether the number under a null index is followed.
-pub fn follows_null(table: &Table) -> bool {
-    table.kind == 1 || table.kind == 6 && matches!(table.size, 1 | 2 | 4 | 8 | 16)
-}
-
-/// The output row of each index, of a gather that none of refusals 1 to 5 meets. Nothing is copied.
+/// The output row of each index, of a gather that none of refusals 1 to 5 meets: null if its index is
+/// null or the row that it names is. Nothing is copied.
 pub fn taken<'a>(table: &'a Table, indices: &IndexColumn) -> Vec<Row<'a>> {
     let rows = rows(table);
     let take = |i| match index(indices, i) {
-        (true, number) => taken_row(table, rows[number as usize]),
-        (false, number) => Row { valid: false, bytes: under_null(table, &rows, number) },
+        (true, number) if rows[number as usize].valid => rows[number as usize],
+        _ => null_row(table),
     };
     (0..indices.count).map(take).collect()
 }
 
-/// Kinds 3 and 4 give an empty row for a null one; the others copy the bytes under the null.
-fn taken_row<'a>(table: &Table, row: Row<'a>) -> Row<'a> {
-    match table.kind {
-        3 | 4 if !row.valid => Row { valid: false, bytes: &[] },
-        _ => row,
-    }
-}
-
-fn under_null<'a>(table: &Table, rows: &[Row<'a>], number: u64) -> &'a [u8] {
-    if matches!(table.kind, 3 | 4) {
-        return &[];
-    }
-    match rows.get(usize::try_from(number).unwrap_or(usize::MAX)) {
-        Some(row) if follows_null(table) => row.bytes,
-        _ => &ZEROS[..row_length(table) as usize],
-    }
+/// A null row of an output: empty in kinds 3 and 4, zeros in the others.
+fn null_row(table: &Table) -> Row<'static> {
+    let length = match table.kind {
+        3 | 4 => 0,
+        _ => row_length(table),
+    };
+    Row { valid: false, bytes: &ZEROS[..length as usize] }
 }

@@ -16,16 +16,13 @@ enum-told c = search needs
 enum-told-2 : tie.Need-enum-told-2
 enum-told-2 c = search needs
 
-stopped-test-requires : tie.Need-stopped-test-requires
-stopped-test-requires c κs = search needs
-
 returns : tie.Need-returns
 returns c =
-    let a = c .before .before .before .before .before .before .before .before .before .before .before .args in
+    let a = c .before .before .before .before .before .before .before .before .before .before .args in
     let x = indexColumnAt (a .indices) (a .index-data) (a .index-validity) in
     let b = batchIn (a .columns) (a .descriptions .now) (a .body .now) in
     let o = outputAt (a .out-validity) (a .out-offsets) (a .out-data) in
-    batch-stopped b x o (c .before .before .before .check-batch .ensures (a .body .now)) (c .before .enum-told2 .given .1) (c .stopped-test .ensures)
+    batch-stopped b x o (c .before .before .check-batch .ensures (a .body .now)) (c .enum-told2 .given .1)
 
 check-columns-requires : tie.Need-check-columns-requires
 check-columns-requires c κs =
@@ -41,17 +38,14 @@ enum-told-3 c = search needs
 enum-told-4 : tie.Need-enum-told-4
 enum-told-4 c = search needs
 
-stopped-test-requires-2 : tie.Need-stopped-test-requires-2
-stopped-test-requires-2 c κs = search needs
-
 returns-2 : tie.Need-returns-2
 returns-2 c =
-    let a = c .before .before .before .before .before .before .before .before .before .before .before .before .before .before .before .args in
+    let a = c .before .before .before .before .before .before .before .before .before .before .before .before .before .before .args in
     let x = indexColumnAt (a .indices) (a .index-data) (a .index-validity) in
     let b = batchIn (a .columns) (a .descriptions .now) (a .body .now) in
     let o = outputAt (a .out-validity) (a .out-offsets) (a .out-data) in
-    columns-stopped b x o (c .before .before .before .before .before .before .before .check-batch .ensures (a .body .now)) (c .before .before .before .before .before .enum-told .given .1) (c .before .before .before .before .check-columns .result) (c .before .before .before .before .check-columns .ensures)
-    (c .before .enum-told4 .given .1) (c .stopped-test2 .ensures)
+    columns-stopped b x o (c .before .before .before .before .before .before .check-batch .ensures (a .body .now)) (c .before .before .before .before .enum-told .given .1) (c .before .before .before .check-columns .result) (c .before .before .before .check-columns .ensures)
+    (c .enum-told4 .given .1)
 
 check-space-requires : tie.Need-check-space-requires
 check-space-requires c κs = search needs
@@ -72,12 +66,10 @@ check-spec =
     check-batch-requires
     enum-told
     enum-told-2
-    stopped-test-requires
     returns
     check-columns-requires
     enum-told-3
     enum-told-4
-    stopped-test-requires-2
     returns-2
     check-space-requires
     returns-3)

@@ -1,6 +1,6 @@
 -- `arrays::take::take_arrays` meets its contract: by what the tests answer, and the clause of the blanked columns by demand 3. Assumes nothing.
 use borrow.Author.Needs.{needs}
-use Rattle.arrays.proofs.Gathering.{both, turned-away, passed, outside-told, all-stored}
+use Rattle.arrays.proofs.Gathering.{both, turned-away, passed, all-stored}
 use Rattle.arrays.proofs.take.take_arrays.Statement.{statement}
 use Rattle.arrays.proofs.take.take_arrays.Tie as tie
 
@@ -17,7 +17,7 @@ write-requires : tie.Need-write-requires
 write-requires c κs =
     let e = c .before .before .before .before .before .check .ensures in
     let f = c .before .before .before .enum-told .given .1 in
-    (passed _ _ _ e f, outside-told _ _ _ e f)
+    passed _ _ _ e f
 
 same-length : tie.Need-same-length
 same-length c = search needs

@@ -21,10 +21,10 @@ use Rattle.bitmaps.proofs.bit.take_bits.Tie as tie
 pack-bits-requires : tie.Need-pack-bits-requires
 pack-bits-requires c κs =
     let n = c .before in
-    let f = n .before .before .before .before .before in
+    let f = n .before .before .before .before .before .before in
     let x = index-formed _ (f .pre .0 .passed) in
     let d = and-true (eqb (f .args .rows) 0) (not (isAbsent (f .args .index-validity .now))) (n .if1 .taken) in
-    (valid-bits-there (f .args .index-validity .now) _ _ (x .validityFits) (not-true (isAbsent (f .args .index-validity .now)) (d .1)), omega (arith, x .count), f .pre .1 .1)
+    (valid-bits-there (f .args .index-validity .now) _ _ (x .validityFits) (not-true (isAbsent (f .args .index-validity .now)) (d .1)), omega (arith, x .count), f .pre .1 .1 .1)
 
 same-length : tie.Need-same-length
 same-length c = search needs
@@ -32,17 +32,17 @@ same-length c = search needs
 returns : tie.Need-returns
 returns c =
     let n = c .before .before .before .before in
-    let f = n .before .before .before .before .before in
+    let f = n .before .before .before .before .before .before in
     let a = f .args in
     let d = and-true (eqb (a .rows) 0) (not (isAbsent (a .index-validity .now))) (n .if1 .taken) in
     c .before .before .pack-bits .ensures
     ∙ ap (λ (e : List ℕ). overwrite e (a .out .now))
-    (no-rows (a .src .now) (a .bit-offset) (a .rows) (indexColumnAt (a .indices) (a .index-data) (a .index-validity)) (f .pre .0) (eqb-true (a .rows) 0 (d .0)) (eqb-false (length (a .index-validity .now)) 0 (not-true (isAbsent (a .index-validity .now)) (d .1))))
+    (no-rows (a .src .now) (a .bit-offset) (a .rows) (indexColumnAt (a .indices) (a .index-data) (a .index-validity)) (f .pre .0) (a .mask .now) (eqb-true (a .rows) 0 (d .0)) (eqb-false (length (a .index-validity .now)) 0 (not-true (isAbsent (a .index-validity .now)) (d .1))))
 
 take-reached-requires : tie.Need-take-reached-requires
 take-reached-requires c κs =
     let n = c .before in
-    let f = n .before .before .before .before .before in
+    let f = n .before .before .before .before .before .before in
     (reached (f .args .src .now) (f .args .bit-offset) (f .args .rows) _ (f .pre .0) (f .pre .1 .0) (n .if1 .left), f .pre .1 .1)
 
 same-length-2 : tie.Need-same-length-2

@@ -27,7 +27,7 @@ returns : tie.Need-returns
 returns c =
     let a = c .before .before .before .before .before .before .before .before .before .args in
     let d = columnAt (a .table) (a .«data») (a .offsets) (a .validity) in
-    offsets-stopped d _ (a .first) (c .before .before .before .check-offsets .ensures ∙ offsets-bare d) (c .before .enum-told2 .given .1) (c .stopped .ensures)
+    offsets-stopped d _ (c .before .before .before .check-offsets .ensures ∙ offsets-bare d) (c .before .enum-told2 .given .1) (c .stopped .ensures)
 
 check-range-requires : tie.Need-check-range-requires
 check-range-requires c κs = let p = c .before .before .before .before .before .before .before .before .pre in (p .indices, p .range)
@@ -45,28 +45,28 @@ returns-2 : tie.Need-returns-2
 returns-2 c =
     let a = c .before .before .before .before .before .before .before .before .before .before .before .before .args in
     let d = columnAt (a .table) (a .«data») (a .offsets) (a .validity) in
-    range-stopped d _ (a .first) (c .before .before .before .before .before .before .before .before .before .before .before .before .pre) (c .before .before .before .before .before .before .check-offsets .ensures ∙ offsets-bare d) (c .before .before .before .before .enum-told .given .1) (c .before .before .before .check-range .ensures .0) (c .before .enum-told4 .given .1)
+    range-stopped d _ (c .before .before .before .before .before .before .before .before .before .before .before .before .pre) (c .before .before .before .before .before .before .check-offsets .ensures ∙ offsets-bare d) (c .before .before .before .before .enum-told .given .1) (c .before .before .before .check-range .ensures) (c .before .enum-told4 .given .1)
     (c .stopped2 .ensures)
 
 measure-requires : tie.Need-measure-requires
 measure-requires c κs =
     let a = c .before .before .before .before .before .before .before .before .before .before .before .args in
     let d = columnAt (a .table) (a .«data») (a .offsets) (a .validity) in
-    rest-ready d _ (a .first) (c .before .before .before .before .before .before .before .before .before .before .before .pre) (c .before .before .before .before .before .check-offsets .ensures ∙ offsets-bare d) (c .before .before .before .enum-told .given .1) (c .before .before .check-range .ensures .0) (c .enum-told3 .given .1)
+    rest-ready d _ (c .before .before .before .before .before .before .before .before .before .before .before .pre) (c .before .before .before .before .before .check-offsets .ensures ∙ offsets-bare d) (c .before .before .before .enum-told .given .1) (c .before .before .check-range .ensures) (c .enum-told3 .given .1)
 
 needed-lengths-requires : tie.Need-needed-lengths-requires
 needed-lengths-requires c κs =
     let a = c .before .before .before .before .before .before .before .before .before .before .before .before .args in
     let d = columnAt (a .table) (a .«data») (a .offsets) (a .validity) in
-    let r = rest-ready d _ (a .first) (c .before .before .before .before .before .before .before .before .before .before .before .before .pre) (c .before .before .before .before .before .before .check-offsets .ensures ∙ offsets-bare d) (c .before .before .before .before .enum-told .given .1) (c .before .before .before .check-range .ensures .0) (c .before .enum-told3 .given .1) in
+    let r = rest-ready d _ (c .before .before .before .before .before .before .before .before .before .before .before .before .pre) (c .before .before .before .before .before .before .check-offsets .ensures ∙ offsets-bare d) (c .before .before .before .before .enum-told .given .1) (c .before .before .before .check-range .ensures) (c .before .enum-told3 .given .1) in
     (rows-fit _ (r .column), (bounds-told _ (r .column), ready-count _ _ r))
 
 returns-3 : tie.Need-returns-3
 returns-3 c =
     let a = c .before .before .before .before .before .before .before .before .before .before .before .before .before .args in
     let d = columnAt (a .table) (a .«data») (a .offsets) (a .validity) in
-    rest-told d _ (a .first) (c .before .before .before .before .before .before .before .before .before .before .before .before .before .pre) (c .before .before .before .before .before .before .before .check-offsets .ensures ∙ offsets-bare d) (c .before .before .before .before .before .enum-told .given .1) (c .before .before .before .before .check-range .ensures .0) (c .before .before .enum-told3 .given .1)
-    (c .before .measure .result) (c .before .measure .ensures) (c .needed-lengths .ensures) (c .before .before .before .before .check-range .ensures .1)
+    rest-told d _ (c .before .before .before .before .before .before .before .before .before .before .before .before .before .pre) (c .before .before .before .before .before .before .before .check-offsets .ensures ∙ offsets-bare d) (c .before .before .before .before .before .enum-told .given .1) (c .before .before .before .before .check-range .ensures) (c .before .before .enum-told3 .given .1)
+    (c .before .measure .result) (c .before .measure .ensures) (c .needed-lengths .ensures)
 
 pub check-column-spec : {M : Type 1} → statement M
 check-column-spec =

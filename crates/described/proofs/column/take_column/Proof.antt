@@ -13,14 +13,14 @@ use Rattle.described.proofs.column.take_column.Tie as tie
 take-nulls-requires : tie.Need-take-nulls-requires
 take-nulls-requires c κs =
     let p = c .before .before .before .before .before .before .before .before .before .pre in
-    (p .0 .indices, (validity-held _ _ (p .0), p .1 .1 .1 .validity))
+    (p .0 .indices, (validity-held _ _ (p .0), p .1 .1 .validity))
 
 take-values-requires : tie.Need-take-values-requires
 take-values-requires c κs =
     let p = c .before .before .before .before .before .before .before .before .before .before .before .before .before .before .before .pre in
     let a = c .before .before .before .before .before .before .before .before .before .before .before .before .before .before .before .args in
     let o = outputAt (a .out-validity) (a .out-offsets) (a .out-data) in
-    (p .0, (room-by-layout _ _ o (p .1 .1 .1), (p .1 .1 .0, (p .1 .0, validates _ _ _ _ (p .1 .1 .1 .validity) (c .before .before .before .before .before .take-nulls .ensures .1)))))
+    (p .0, (room-by-layout _ _ o (p .1 .1), (nulls-counted _ _ (p .0) (c .before .before .before .before .before .take-nulls .ensures .0), (p .1 .0, validates _ _ _ _ (p .1 .1 .validity) (c .before .before .before .before .before .take-nulls .ensures .1)))))
 
 kind-of-requires : tie.Need-kind-of-requires
 kind-of-requires c κs = search needs
@@ -34,7 +34,7 @@ data-written-requires c κs =
     let a = c .before .before .before .before .before .before .before .before .before .before .before .before .before .before .before .before .before .before .before .before .before .before .before .args in
     let o = outputAt (a .out-validity) (a .out-offsets) (a .out-data) in
     let l = layout-told _ (c .before .before .kind-of .ensures) (c .before .layout-of .ensures) in
-    offsets-in _ _ (p .0) (p .1 .0) _ (c .before .before .before .before .before .before .before .take-values .ensures .0) l (room-by-layout _ _ o (p .1 .1 .1) .0)
+    offsets-in _ _ (p .0) (p .1 .0) _ (c .before .before .before .before .before .before .before .take-values .ensures .0) l (room-by-layout _ _ o (p .1 .1) .0)
 
 needed-lengths-requires : tie.Need-needed-lengths-requires
 needed-lengths-requires c κs =

@@ -119,7 +119,7 @@ returns-2 c =
     let p = sizes-passed-by d x (a .first) r e f in
     let q = placed _ _ k u (sized-whole _ (p .sized)) (c .before .before .before .buffer .ensures) (c .before .before .offsets-buffer .ensures) (c .before .buffer2 .ensures) in
     let t = c .check-column .result in
-    all-told d x (a .first) r e f t (subst (λ (b : Column). RestToldOf (a .first) b x t) q (c .check-column .ensures))
+    all-told d x (a .first) r e f t (subst (λ (b : Column). RestToldOf b x t) q (c .check-column .ensures))
 
 pub check-described-spec : {M : Type 1} → statement M
 check-described-spec =

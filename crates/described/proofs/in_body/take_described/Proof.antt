@@ -34,7 +34,7 @@ take-column-requires c κs =
     let o = outputAt (a .out-validity) (a .out-offsets) (a .out-data) in
     let e = sym (placed _ _ (c .before .before .before .before .before .before .before .kind-of .ensures) (c .before .before .before .before .before .before .uses-of .ensures) (well-formed-whole _ _ (p .0 .column)) (c .before .before .before .before .before .buffer .ensures) (c .before .before .before .before .offsets-buffer .ensures) (c .before .before .before .buffer2 .ensures)) in (
       subst (λ (b : Column). Ready b x) e (p .0),
-      (subst (λ (b : Column). NoOverflow b x) e (p .1 .0), (p .1 .1 .0, subst (λ (b : Column). HasRoomFor (taken b x) o) e (p .1 .1 .1))),
+      (subst (λ (b : Column). NoOverflow b x) e (p .1 .0), subst (λ (b : Column). HasRoomFor (taken b x) o) e (p .1 .1)),
     )
 
 same-length : tie.Need-same-length

@@ -15,14 +15,11 @@ enum-told c = search needs
 enum-told-2 : tie.Need-enum-told-2
 enum-told-2 c = search needs
 
-stopped-requires : tie.Need-stopped-requires
-stopped-requires c κs = search needs
-
 returns : tie.Need-returns
 returns c =
-    let a = c .before .before .before .before .before .before .before .before .before .before .before .before .args in
-    sizes-refused (columnAt (a .table) (a .«data») (a .offsets) (a .validity)) (indexColumnAt (a .indices) (a .index-data) (a .index-validity)) _ (c .before .before .before .check-sizes .ensures)
-    (c .before .enum-told2 .given .1) (c .stopped .ensures)
+    let a = c .before .before .before .before .before .before .before .before .before .before .before .args in
+    sizes-refused (columnAt (a .table) (a .«data») (a .offsets) (a .validity)) (indexColumnAt (a .indices) (a .index-data) (a .index-validity)) _ (c .before .before .check-sizes .ensures)
+    (c .enum-told2 .given .1)
 
 check-column-requires : tie.Need-check-column-requires
 check-column-requires c κs =
@@ -36,14 +33,11 @@ enum-told-3 c = search needs
 enum-told-4 : tie.Need-enum-told-4
 enum-told-4 c = search needs
 
-stopped-requires-2 : tie.Need-stopped-requires-2
-stopped-requires-2 c κs = search needs
-
 returns-2 : tie.Need-returns-2
 returns-2 c =
-    let a = c .before .before .before .before .before .before .before .before .before .before .before .before .before .before .before .before .args in
-    through-refused (columnAt (a .table) (a .«data») (a .offsets) (a .validity)) (indexColumnAt (a .indices) (a .index-data) (a .index-validity)) (c .before .before .before .before .before .before .before .check-sizes .ensures)
-    (c .before .before .before .before .before .enum-told .given .1) (c .before .before .before .before .check-column .result) (c .before .before .before .before .check-column .ensures) _ (c .before .enum-told4 .given .1) (c .stopped2 .ensures)
+    let a = c .before .before .before .before .before .before .before .before .before .before .before .before .before .before .before .args in
+    through-refused (columnAt (a .table) (a .«data») (a .offsets) (a .validity)) (indexColumnAt (a .indices) (a .index-data) (a .index-validity)) (c .before .before .before .before .before .before .check-sizes .ensures)
+    (c .before .before .before .before .enum-told .given .1) (c .before .before .before .check-column .result) (c .before .before .before .check-column .ensures) _ (c .enum-told4 .given .1)
 
 check-space-requires : tie.Need-check-space-requires
 check-space-requires c κs = search needs
@@ -62,12 +56,10 @@ check-spec =
     check-sizes-requires
     enum-told
     enum-told-2
-    stopped-requires
     returns
     check-column-requires
     enum-told-3
     enum-told-4
-    stopped-requires-2
     returns-2
     check-space-requires
     returns-3)

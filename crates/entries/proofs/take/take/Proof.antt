@@ -1,7 +1,7 @@
 -- `entries::take::take` meets its contract: by what the tests answer, and the blanked table's clause by demand 3. Assumes nothing.
 use borrow.Author.Needs.{needs}
 use Rattle.gathers.specs.Stored.{outputAt}
-use Rattle.entries.proofs.Gathering.{both, turned-away, ready, outside-told, overflow-passed, room, all-stored}
+use Rattle.entries.proofs.Gathering.{both, turned-away, ready, overflow-passed, room, all-stored}
 use Rattle.entries.proofs.take.take.Statement.{statement}
 use Rattle.entries.proofs.take.take.Tie as tie
 
@@ -20,7 +20,7 @@ take-column-requires c κs =
     let o = outputAt (a .out-validity) (a .out-offsets) (a .out-data) in
     let e = c .before .before .before .before .before .check .ensures in
     let f = c .before .before .before .enum-told .given .1 in
-    (ready _ _ o e f, (overflow-passed _ _ o e f, (outside-told _ _ o e f, room _ _ o e f)))
+    (ready _ _ o e f, (overflow-passed _ _ o e f, room _ _ o e f))
 
 same-length : tie.Need-same-length
 same-length c = search needs

@@ -1,5 +1,6 @@
 -- `nulls::null::take_validity` meets its contract. By what the rows and the indices have of validity. Assumes nothing.
 use mathlib.Core.Path.{ap, _∙_}
+use mathlib.Core.Bool.{true≢false}
 use mathlib.Core.List.{List}
 use Prim.Native.Nat.{ℕ}
 use native.Mathlib.Omega.{arith}
@@ -13,17 +14,26 @@ use borrow.Author.Needs.{needs}
 use Rattle.nulls.proofs.null.take_validity.Statement.{statement}
 use Rattle.nulls.proofs.null.take_validity.Tie as tie
 
+sub-take-bits : tie.Need-sub-take-bits
+sub-take-bits c = search needs
+
+part-take-bits-start : tie.Need-part-take-bits-start
+part-take-bits-start c = search needs
+
+part-take-bits-end : tie.Need-part-take-bits-end
+part-take-bits-end c = search needs
+
 take-bits-requires : tie.Need-take-bits-requires
 take-bits-requires c κs =
-    let f = c .before .before .before .before .before .before in
-    (f .pre .0, (f .pre .1 .0 (ne-eqb _ 0 (c .before .if1 .taken)), f .pre .1 .1 .1))
+    let f = c .before .before .before .before .before .before .before in
+    (f .pre .0, (f .pre .1 .0 (ne-eqb _ 0 (c .before .before .if1 .taken)), ((λ e. absurd (true≢false e)), f .pre .1 .1 .1)))
 
 same-length : tie.Need-same-length
 same-length c = search needs
 
 returns : tie.Need-returns
 returns c =
-    let t = c .before .before .before .before in
+    let t = c .before .before .before .before .before in
     let a = t .before .before .before .before .before .args in
     c .before .before .take-bits .ensures
     ∙ ap (λ (e : List ℕ). overwrite e (a .out-validity .now)) (by-bits (a .validity .now) (a .bit-offset) (indexColumnAt (a .indices) (a .index-data) (a .index-validity)) (t .if1 .taken))
@@ -52,4 +62,4 @@ returns-2 c =
 pub take-validity-spec : {M : Type 1} → statement M
 take-validity-spec =
     tie.close
-    (tie.spec take-bits-requires same-length returns pack-bits-requires same-length-2 returns-2)
+    (tie.spec sub-take-bits part-take-bits-start part-take-bits-end take-bits-requires same-length returns pack-bits-requires same-length-2 returns-2)
