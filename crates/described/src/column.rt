@@ -66,7 +66,8 @@ fn check_range(
     if !first {
         return Checked::Fit;
     }
-    check_bounds(rows, indices, index_data, index_validity)
+    let scanned = check_bounds(rows, indices, index_data, index_validity);
+    scanned.checked
 }
 
 // The tests that are left after refusals 1 to 3, through overflow. The first column is tested for the range of the indices, a later one has as many rows.

@@ -1,2 +1,4 @@
+pub mod AllTrials
 pub mod Scan
 pub mod Numbers
+pub mod Looked

@@ -1,15 +1,24 @@
--- The test of one index of the range scan: the number first, and the validity bit where the number is out of range. Assumes nothing.
-use mathlib.Core.Path.{_≡_}
+-- The test of one index of the range scan: the number first, and the validity bit where the number is out of range. Indices that are passed over by
+-- their numbers alone. Assumes nothing.
+use mathlib.Core.Path.{_≡_, sym, ap, _∙_, subst}
 use mathlib.Core.Bool.{Bool, true, false, _&&_}
-use Prim.Native.Nat.{ℕ, _≤_, _<_}
+use Prim.Native.Nat.{ℕ, _+_, _*_, _≤_, _<_}
 use native.Mathlib.Omega.{arith}
 use lib.Dec.{leb}
+use lib.ListN.{length}
 use borrow.Author.Tests.{le-leb, lt-leb, eq-eqb, ne-eqb}
-use Rattle.bits.specs.Numbers.{numberAt}
+use Rattle.bits.specs.Sequences.{any}
+use Rattle.bits.specs.Numbers.{numberAt, isNumberWidth}
 use Rattle.bits.specs.Bits.{bitValue, validAt}
 use Rattle.tables.specs.Columns.{IndexColumn, indexValid, index}
+use Rattle.tables.specs.Answers.{passes}
+use Rattle.tables.specs.Refusals.{indexRefusal}
+use Rattle.range.specs.Looked.{isTooNarrow}
+use Rattle.range.specs.Scanned.{Scannable}
 use Rattle.bits.proofs.Tests.{and-false-right}
-use Rattle.tables.proofs.There.{index-read, index-valid-read}
+use Rattle.bits.proofs.Sequences.{any-none}
+use Rattle.tables.proofs.There.{index-there, index-number, index-read, index-valid-read}
+use Rattle.tables.proofs.Facts.{IndexFormed, index-formed}
 
 -- index j is valid, and names none of n rows
 abbrev pub outside : ℕ → IndexColumn → ℕ → Bool
@@ -25,3 +34,36 @@ module _ (n : ℕ) (x : IndexColumn) (j : ℕ) where
 
     pub found : {w r : ℕ} → x .indices .width ≡ w → r ≡ numberAt w (x .«data») j → n ≤ r → b ≡ 1 → outside n x j ≡ true
     found e d h t = rw (index-valid-read x j v (eq-eqb b 1 t)) (le-leb n (index x j) (omega (arith, index-read x j e d)))
+
+-- where no number is, no index is
+pub none-outside : (n : ℕ) (x : IndexColumn) (m : ℕ) → any m (λ j. leb n (numberAt (x .indices .width) (x .«data») j)) ≡ false
+    → (j : ℕ) → j < m → outside n x j ≡ false
+none-outside n x m e j h =
+    and-false-right (indexValid x j) (ap (leb n) (index-number x j) ∙ any-none m (λ j. leb n (numberAt (x .indices .width) (x .«data») j)) e j h)
+
+-- ---- by another name of the width
+
+module _ (x : IndexColumn) {w : ℕ} (e : x .indices .width ≡ w) where
+  -- number j is there
+  pub number-there : IndexFormed x → (j : ℕ) → j < x .indices .count → (isNumberWidth w ≡ true) × (j * w + w ≤ length (x .«data»))
+  number-there f j h = subst (λ (v : ℕ). (isNumberWidth v ≡ true) × (j * v + v ≤ length (x .«data»))) e (index-there x f j h)
+
+  -- all of them are
+  pub numbers-there : passes (indexRefusal x) ≡ true → (isNumberWidth w ≡ true) × (x .indices .count * w ≤ length (x .«data»))
+  numbers-there t =
+      let f : IndexFormed x = index-formed x t in
+      subst (λ (v : ℕ). (isNumberWidth v ≡ true) × (x .indices .count * v ≤ length (x .«data»))) e (f .width, f .dataFit)
+
+  -- as it was tested
+  pub narrow-at : (n : ℕ) {t b : Bool} → t ≡ isTooNarrow n w → t ≡ b → isTooNarrow n (x .indices .width) ≡ b
+  narrow-at n d h = ap (isTooNarrow n) e ∙ sym d ∙ h
+
+  -- what the tests before the scan have told
+  pub scannable : (n : ℕ) {t : Bool} {from : ℕ} → passes (indexRefusal x) ≡ true → t ≡ isTooNarrow n w → t ≡ false
+      → (from ≤ x .indices .count) × (any from (λ j. leb n (numberAt w (x .«data») j)) ≡ false) → Scannable n x from
+  scannable n {from = from} p d h b = record {
+    tested = p;
+    wide = narrow-at n d h;
+    inside = b .0;
+    before = subst (λ (v : ℕ). any from (λ j. leb n (numberAt v (x .«data») j)) ≡ false) (sym e) (b .1);
+  }

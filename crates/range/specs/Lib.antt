@@ -1,1 +1,3 @@
-pub mod Outside
+pub mod Looked
+pub mod Scanned
+pub mod Trials

@@ -1,14 +1,13 @@
-// Whether some number of an index column, also one under a null index, is that of no row. The numbers are compared without leaving early, many
-// at once, and in a loop for each width.
+// How far no number of an index column, also none under a null index, is that of no row. Numbers are compared block by block: within one without
+// leaving early, many at once.
 use bits::number::number_at;
 ghost use mathlib.Core.Path.{_≡_};
-ghost use mathlib.Core.Bool.{true};
-ghost use Prim.Native.Nat.{_*_, _^_, _≤_, _<_};
-ghost use lib.Dec.{ltb};
+ghost use mathlib.Core.Bool.{true, false};
+ghost use Prim.Native.Nat.{_+_, _-_, _*_, _^_, _≤_, _<_};
+ghost use lib.Dec.{leb, ltb};
 ghost use lib.ListN.{length};
 ghost use Rattle.bits.specs.Sequences.{any};
 ghost use Rattle.bits.specs.Numbers.{numberAt, isNumberWidth};
-ghost use Rattle.range.specs.Outside.{numbersOutside};
 
 // Whether x is above last, of numbers of w bytes: compared at that width, so that a loop over many compares as many at once.
 fn is_above(last: u64, x: u64, w: usize) -> bool
@@ -28,47 +27,55 @@ fn is_above(last: u64, x: u64, w: usize) -> bool
     ((last % 256) as u8) < ((x % 256) as u8)
 }
 
-// Whether some number of w bytes is above last.
-fn some_above(last: u64, w: usize, count: usize, index_data: &[u8]) -> bool
+// Whether some of the first n numbers is above last.
+fn some_above(last: u64, w: usize, n: usize, numbers: &[u8]) -> bool
     requires { ⌜ isNumberWidth w ≡ true ⌝ }
-    requires { ⌜ (last < 256 ^ w) × (count * w ≤ length (now «index_data»)) ⌝ }
-    ensures { λ r. ⌜ r ≡ any count (λ j. ltb last (numberAt w (now («index_data» .entry)) j)) ⌝ }
+    requires { ⌜ (last < 256 ^ w) × (n * w ≤ length (now numbers)) ⌝ }
+    ensures { λ r. ⌜ r ≡ any n (λ k. ltb last (numberAt w (now (numbers .entry)) k)) ⌝ }
 {
     let mut above = false;
-    let mut j: usize = 0;
-    while j < count {
-        above = above | is_above(last, number_at(index_data, w, j), w);
-        j += 1;
+    let mut k: usize = 0;
+    while k < n {
+        above = above | is_above(last, number_at(numbers, w, k), w);
+        k += 1;
     }
     above
 }
 
-// Of numbers of w bytes. Where there are more rows than such numbers, each number is a row's.
-fn some_outside_by(rows: u64, w: usize, count: usize, index_data: &[u8]) -> bool
-    requires { ⌜ isNumberWidth w ≡ true ⌝ }
-    requires { ⌜ count * w ≤ length (now «index_data») ⌝ }
-    ensures { λ r. ⌜ r ≡ numbersOutside rows w count (now («index_data» .entry)) ⌝ }
+// How many of the numbers that are left are a block: 512, or all.
+fn block_len(left: usize) -> usize
+    ensures { λ r. ⌜ r ≡ left - (left - 512) ⌝ }
 {
-    if rows == 0 {
-        return count != 0;
-    }
-    let largest: u64 = 18_446_744_073_709_551_615 >> (64 - 8 * w);
-    if largest < rows {
-        return false;
-    }
-    some_above(rows - 1, w, count, index_data)
+    if left < 512 { left } else { 512 }
 }
 
-pub fn some_outside(rows: u64, width: u64, count: u64, index_data: &[u8]) -> bool
-    requires { ⌜ isNumberWidth width ≡ true ⌝ }
-    requires { ⌜ count * width ≤ length (now «index_data») ⌝ }
-    ensures { λ r. ⌜ r ≡ numbersOutside rows width count (now («index_data» .entry)) ⌝ }
+// The first number of the first block in which some number is above last; the count where none is. A block is a part of the buffer, so that the loop
+// over it counts from 0 up to at most 512: from one place to another it would count in 64 bits on a core of 32.
+fn block_above(last: u64, w: usize, count: usize, index_data: &[u8]) -> usize
+    requires { ⌜ isNumberWidth w ≡ true ⌝ }
+    requires { ⌜ (last < 256 ^ w) × (count * w ≤ length (now «index_data»)) ⌝ }
+    ensures { λ r. ⌜ (r ≤ count) × (any r (λ j. ltb last (numberAt w (now («index_data» .entry)) j)) ≡ false) ⌝ }
 {
-    let count = count as usize;
-    match width {
-        2 => some_outside_by(rows, 2, count, index_data),
-        4 => some_outside_by(rows, 4, count, index_data),
-        8 => some_outside_by(rows, 8, count, index_data),
-        _ => some_outside_by(rows, 1, count, index_data),
+    let mut from = 0;
+    while from < count {
+        let n = block_len(count - from);
+        if some_above(last, w, n, &index_data[from * w..]) {
+            break;
+        }
+        from += n;
     }
+    from
+}
+
+// The first number of the first block in which some number is that of none of so many rows, which numbers of that width can hold; the count where
+// none is.
+pub fn block_outside(rows: u64, w: usize, count: usize, index_data: &[u8]) -> usize
+    requires { ⌜ isNumberWidth w ≡ true ⌝ }
+    requires { ⌜ (rows < 256 ^ w) × (count * w ≤ length (now «index_data»)) ⌝ }
+    ensures { λ r. ⌜ (r ≤ count) × (any r (λ j. leb rows (numberAt w (now («index_data» .entry)) j)) ≡ false) ⌝ }
+{
+    if rows == 0 {
+        return 0;
+    }
+    block_above(rows - 1, w, count, index_data)
 }

@@ -1,12 +1,17 @@
-// Runs what is too long for a line of text: the paper's trial 10, which overflows, and trial 11, on byte buffers; refusal 7 at each place; and the row
-// reader. Writes a line for each, which says what was answered, and whether the outputs were kept.
+// Runs what is too long for a line of text: the paper's trial 10, which overflows, and trial 11, on byte buffers; refusal 7 at each place; the row
+// reader; and the range scan, which tells more than the four numbers do. Writes a line for each, which says what was answered, and whether the outputs
+// were kept.
 use bits::number::wide;
+use checks::columns::check_columns;
 use entries::answer::Answered;
 use entries::answer::answered_numbers;
 use entries::take::take;
 use libc::STDOUT_FILENO;
+use range::bounds::Scanned;
+use range::bounds::check_bounds;
 use reader::row::has_row;
 use reader::row::read_row;
+use tables::refusal::Checked;
 use tables::table::Indices;
 use tables::table::Table;
 
@@ -232,6 +237,69 @@ fn row(number: u64) {
     }
 }
 
+// The range scan over so many rows, of an index column that is tested first.
+fn scanned(rows: u64, indices: Indices, index_data: &[u8], index_validity: &[u8]) -> Scanned {
+    let none = Table {
+        kind: 2,
+        width: 0,
+        size: 0,
+        offset_width: 0,
+        rows: 0,
+        data_bit: 0,
+        validity_bit: 0,
+    };
+    let checked = check_columns(none, b"", b"", b"", indices, index_data, index_validity);
+    let Checked::Fit = checked else {
+        return Scanned { checked, looked: 0 };
+    };
+    check_bounds(rows, indices, index_data, index_validity)
+}
+
+// What it answers, and how many indices it looked at.
+fn scan(rows: u64, width: u64, count: u64, index_data: &[u8], index_validity: &[u8]) {
+    let indices = Indices {
+        width,
+        count,
+        validity_bit: 0,
+    };
+    let found = scanned(rows, indices, index_data, index_validity);
+    write_number(b"scan, ", count);
+    write_number(b" indices of width ", width);
+    write_number(b", ", rows);
+    let checked = found.checked;
+    match checked {
+        Checked::Fit => write(b" rows: none outside"),
+        Checked::Unfit(refusal) => {
+            let numbers = answered_numbers(Answered::Refused(refusal));
+            write_number(b" rows: number ", numbers.number);
+            write_number(b", place ", numbers.place);
+        }
+    }
+    write_number(b", looked at ", found.looked);
+    write(b"\n");
+}
+
+// The largest number that a width can hold, after another one and a null one, about the row counts that it can't hold. Then as the last index of 1,200,
+// which are more than two blocks of the scan.
+fn scans() {
+    scan(255, 1, 3, b"\x07\xff\xff", b"\x05");
+    scan(256, 1, 3, b"\x07\xff\xff", b"\x05");
+    scan(257, 1, 3, b"\x07\xff\xff", b"\x05");
+    scan(65535, 2, 3, b"\x07\0\xff\xff\xff\xff", b"\x05");
+    scan(65536, 2, 3, b"\x07\0\xff\xff\xff\xff", b"\x05");
+    scan(65537, 2, 3, b"\x07\0\xff\xff\xff\xff", b"\x05");
+    scan(65535, 2, 3, b"\x07\0\xff\xff\xff\xff", b"\x01");
+    scan(7, 1, 3, b"\x07\xff\xff", b"\x05");
+    scan(0, 1, 0, b"", b"");
+    let mut index_data = [7u8; 1200];
+    scan(255, 1, 1200, &index_data, b"");
+    index_data[1199] = 255;
+    scan(255, 1, 1200, &index_data, b"");
+    scan(256, 1, 1200, &index_data, b"");
+    index_data[512] = 255;
+    scan(255, 1, 1200, &index_data, b"");
+}
+
 fn main() {
     long_row(b"trial 10, variable bytes", 3, 32768);
     long_row(b"trial 10, list", 4, 32768);
@@ -244,4 +312,5 @@ fn main() {
     row(2);
     row(3);
     row(4);
+    scans();
 }

@@ -13,7 +13,7 @@ check-bounds-requires : tie.Need-check-bounds-requires
 check-bounds-requires c κs = c .before .before .before .pre .0
 
 returns-2 : tie.Need-returns-2
-returns-2 c = c .check-bounds .ensures
+returns-2 c = c .check-bounds .ensures .0
 
 pub check-range-spec : {M : Type 1} → statement M
 check-range-spec = tie.close (tie.spec returns check-bounds-requires returns-2)
