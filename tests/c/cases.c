@@ -1,10 +1,10 @@
-/* Runs the cases of the text files that are named, which crates/vectors runs too, through the archive as a C caller sees it; then the paper's trial 10, cases that
-   are made here, and an answer slice that is too short. Each buffer is allocated at its length, so that valgrind sees a byte read or written past it; outputs are
-   lent with just the room needed and with more, and filled, so that a byte changed by a refusal shows. A case that passes refusals 1 to 3 is run once more with
-   only the needed bytes of its source and index buffers there, so that valgrind sees a read of any other. A case of one column that is gathered is also run with
-   other bytes below its nulls, none of which may show. A batch that is gathered is held against as many calls for a column each, and is run with a byte less than
-   it needs of each output. The answers of take-kernels.txt are published ones, which the file keeps byte for byte; it is known by its name, and they are compared
-   with zeros below nulls. Prints a line for each file; exits with 1 at the first difference. */
+/* Runs the cases of the text files that are named, which crates/vectors runs too, through the archive as a C caller sees it; then the paper's trial 10, cases
+   that are made here, among them what the range test may read, and an answer slice that is too short. Each buffer is allocated at its length, so that valgrind
+   sees a byte read or written past it; outputs are lent with just the room needed and with more, and filled, so that a byte changed by a refusal shows. A case
+   that passes refusals 1 to 3 is run once more with only the needed bytes of its source and index buffers there, so that valgrind sees a read of any other. A
+   case of one column that is gathered is also run with other bytes below its nulls, none of which may show. A batch that is gathered is held against as many
+   calls for a column each, and is run with a byte less than it needs of each output. The answers of take-kernels.txt are published ones, which the file keeps
+   byte for byte; it is known by its name, and they are compared with zeros below nulls. Prints a line for each file; exits with 1 at the first difference. */
 #include "hoglidra.h"
 #include <stdio.h>
 #include <stdlib.h>
@@ -704,6 +704,93 @@ static void run_made_batches(void) {
     printf("made batches: %d cases\n", line_number);
 }
 
+/* A column of bytes by `count` valid indices that name rows, save for the one at `place`, which is any number. Each buffer has the needed bytes and no more. */
+static struct gather make_range(uint64_t rows, uint64_t index_width, uint64_t count, uint64_t place, uint64_t any) {
+    struct gather g = { .numbers = { [KIND] = HOGLIDRA_PRIMITIVE, [WIDTH] = 1, [ROWS] = rows, [INDEX_WIDTH] = index_width, [COUNT] = count } };
+    uint64_t named = index_width == 1 && rows > 256 ? 256 : index_width == 2 && rows > 65536 ? 65536 : rows;
+    g.in[DATA] = lend(rows), g.in[INDEX_DATA] = lend(count * index_width);
+    for (uint64_t r = 0; r < rows; r++) g.in[DATA].at[r] = (uint8_t)(r ^ r >> 8);
+    for (uint64_t j = 0; j < count; j++) put(g.in[INDEX_DATA].at + j * index_width, j == place ? any : below(named), index_width);
+    return g;
+}
+
+/* Says of a case of make_range that it is gathered, and what it gives: all of it is valid. */
+static void want_rows(struct gather *g) {
+    uint64_t count = g->numbers[COUNT];
+    g->answer[2] = count;
+    for (uint64_t j = 0; j < count; j++) {
+        g->out[OUT_VALIDITY].at[j / 8] = (uint8_t)(j % 8 ? g->out[OUT_VALIDITY].at[j / 8] | 1 << j % 8 : 1);
+        g->out[OUT_DATA].at[j] = g->in[DATA].at[get(&g->in[INDEX_DATA], j, g->numbers[INDEX_WIDTH])];
+    }
+}
+
+/* Row counts about the first that an index width cannot hold. The last row, the row count itself and the largest number, where the width holds them, at both ends
+   of the first 512 indices, after them, and as the last of all. */
+static void run_ranges(void) {
+    static const uint64_t rows[] = { 255, 256, 257, 65535, 65536, 65537 }, places[] = { 0, 511, 512, 599 };
+    where = "ranges", line_number = 0;
+    for (int turn = 0; turn < 6 * 2 * 4 * 3; turn++) {
+        uint64_t n = rows[turn / 24], index_width = turn / 12 % 2 + 1, largest = (UINT64_C(1) << 8 * index_width) - 1, place = places[turn / 3 % 4];
+        const uint64_t numbers[] = { n - 1, n, largest };
+        uint64_t number = numbers[turn % 3];
+        if (number > largest) continue;
+        struct gather g = make_range(n, index_width, 600, place, number);
+        g.out[OUT_VALIDITY] = lend(75), g.out[OUT_DATA] = lend(600);
+        if (number < n) want_rows(&g);
+        else g.answer[0] = HOGLIDRA_RANGE, g.answer[1] = place;
+        line_number++;
+        run_all(&g);
+        free_gather(&g);
+    }
+    printf("ranges: %d cases\n", line_number);
+}
+
+/* The case with no more of its index numbers there than the first so many bytes: cut to them, so that firmware/guard.c sees a read of the next one too; and whole,
+   with the others marked, so that valgrind sees a read of any. The length stays. */
+static void run_numbers_there(const struct gather *g, size_t there) {
+    const struct buffer *numbers = &g->in[INDEX_DATA];
+    struct gather cut = *g;
+    cut.in[INDEX_DATA].at = copied(numbers->at, there);
+    run(&cut, 0);
+    free(cut.in[INDEX_DATA].at);
+    VALGRIND_MAKE_MEM_NOACCESS(numbers->at + there, numbers->len - there);
+    run(g, 0);
+    VALGRIND_MAKE_MEM_DEFINED(numbers->at + there, numbers->len - there);
+}
+
+/* What the range test reads of the numbers. Nothing else reads one here, for what is not refused by it is refused for space. By an index width that cannot hold
+   the row count it reads none; else blocks of 512 in turn, and none after that of the first valid index outside, whatever lies outside under nulls before it. */
+static void run_scans(void) {
+    static const uint64_t places[] = { 0, 1, 511, 512, 700, 1023, 1024, 2000 };
+    enum { BLOCK = 512, SCANNED = 2600 };
+    where = "scans", line_number = 0;
+    for (uint64_t index_width = 1; index_width <= 2; index_width++) {
+        struct gather g = make_range(UINT64_C(1) << 8 * index_width, index_width, SCANNED, 0, UINT64_MAX);
+        g.answer[0] = HOGLIDRA_SPACE, g.answer[1] = 1, g.answer[2] = (SCANNED + 7) / 8;
+        line_number++;
+        run_numbers_there(&g, 0);
+        free_gather(&g);
+    }
+    for (uint64_t index_width = 1; index_width <= 8; index_width *= 2)
+        for (int turn = 0; turn < 8 * 2; turn++) {
+            uint64_t place = places[turn / 2];
+            struct gather g = make_range(200, index_width, SCANNED, place, turn % 4 < 2 ? 200 : UINT64_MAX);
+            if (turn % 2) {
+                g.in[INDEX_VALIDITY] = lend((SCANNED + 7) / 8);
+                memset(g.in[INDEX_VALIDITY].at, 0xFF, g.in[INDEX_VALIDITY].len);
+                for (uint64_t j = 0; j < place; j += 1 + below(200)) {
+                    g.in[INDEX_VALIDITY].at[j / 8] &= (uint8_t)~(1 << j % 8);
+                    put(g.in[INDEX_DATA].at + j * index_width, UINT64_MAX, index_width);
+                }
+            }
+            g.answer[0] = HOGLIDRA_RANGE, g.answer[1] = place;
+            line_number++;
+            run_numbers_there(&g, (place / BLOCK + 1) * BLOCK * index_width);
+            free_gather(&g);
+        }
+    printf("scans: %d cases\n", line_number);
+}
+
 /* An answer of 31 bytes gets 7 before every other test, and nothing is written. */
 static void run_short_answer(void) {
     uint8_t out[1] = { FILL }, answer[HOGLIDRA_ANSWER_LEN];
@@ -723,6 +810,8 @@ int main(int argc, char **argv) {
     run_batch_10();
     run_all_made();
     run_made_batches();
+    run_ranges();
+    run_scans();
     run_short_answer();
     return 0;
 }
