@@ -165,6 +165,16 @@ fn size_by<I: Index>(array: &Array, indices: &Indices<I>) -> Result<usize, Error
     }
 }
 
+/// `check_bounds` alone.
+pub fn check(rows: usize, indices: &IndexArray) -> Result<(), Error> {
+    match indices.width {
+        1 => check_bounds(rows, &indices.typed::<u8>()),
+        2 => check_bounds(rows, &indices.typed::<u16>()),
+        4 => check_bounds(rows, &indices.typed::<u32>()),
+        _ => check_bounds(rows, &indices.typed::<u64>()),
+    }
+}
+
 /// Verifies that the non-null values of `indices` are all `< len`
 fn check_bounds<I: Index>(len: usize, indices: &Indices<I>) -> Result<(), Error> {
     let Some(len) = I::from_usize(len) else {

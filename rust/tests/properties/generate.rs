@@ -164,7 +164,7 @@ pub fn lay_out_validity(random: &mut Random, valid: &[bool]) -> (Bytes, u64) {
     (lay_out_bits(random, valid, bit_offset), bit_offset)
 }
 
-fn lay_out_bits(random: &mut Random, bits: &[bool], bit_offset: u64) -> Bytes {
+pub fn lay_out_bits(random: &mut Random, bits: &[bool], bit_offset: u64) -> Bytes {
     let bit_offset = bit_offset as usize;
     let mut bytes = random.bytes((bit_offset + bits.len()).div_ceil(8));
     for (i, bit) in bits.iter().enumerate() {

@@ -18,6 +18,7 @@ mod overflow;
 mod privacy;
 mod published;
 mod random;
+mod range;
 #[path = "../../benches/take/reference.rs"]
 mod reference;
 mod well_formed;

@@ -7,4 +7,5 @@ mod nulls;
 mod overflow;
 mod parts;
 mod privacy;
+mod range;
 mod well_formed;

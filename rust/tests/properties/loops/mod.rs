@@ -1,5 +1,5 @@
 //! The archive against the loops of `take.rs`, on slices and `Vec`, that the benchmark times.
 
-mod arrays;
+pub mod arrays;
 mod gathers;
 mod totals;
