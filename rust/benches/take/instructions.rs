@@ -1,4 +1,5 @@
-//! Instructions a row, by valgrind's callgrind, which do not depend on what else the machine does.
+//! Instructions a row, or a call of the range test, by valgrind's callgrind, which do not depend on
+//! what else the machine does.
 //!
 //! The benchmark runs itself under callgrind with `--counted`: there each side of each case is
 //! called once, by one function that callgrind zeroes its counts before and writes them down after,
@@ -11,9 +12,12 @@ use std::hint::black_box;
 use std::path::Path;
 use std::process::Command;
 
+use hoglidra::Kind;
+
 use crate::batch::{BatchCase, BatchInput};
-use crate::case::{Case, Order, LARGE};
+use crate::case::{Case, Order, LARGE, MIDDLE};
 use crate::input::Input;
+use crate::range::{self, RangeCase, RangeInput};
 
 const COUNTED: &str = "hoglidra_counted";
 
@@ -27,15 +31,28 @@ fn count<T>(mut call: impl FnMut() -> T) {
     hoglidra_counted(&mut || drop(black_box(call())));
 }
 
-/// Of the cases those by random indices of 4 bytes, at the two sizes that do not take minutes.
-pub fn counted(cases: &[Case]) -> Vec<Case> {
-    let chosen =
-        |case: &&Case| case.index_width == 4 && case.order == Order::Random && case.size != LARGE;
+/// Of the cases those by random indices of 4 bytes, at the two sizes that do not take minutes. Where
+/// a word names an index width, also one layout by indices of 1 and 2 bytes, at the row count that
+/// neither can hold.
+pub fn counted(cases: &[Case], words: &[String]) -> Vec<Case> {
+    let width_named = words.iter().any(|word| word.contains("index width"));
+    let chosen = |case: &&Case| {
+        let usual = case.index_width == 4 && case.size != LARGE;
+        case.order == Order::Random && (usual || width_named && is_narrow(case))
+    };
     cases.iter().filter(chosen).copied().collect()
 }
 
+fn is_narrow(case: &Case) -> bool {
+    case.index_width < 4 && case.size == MIDDLE && case.layout.kind == Kind::Primitive { width: 4 }
+}
+
+pub fn counted_ranges(cases: &[RangeCase]) -> Vec<RangeCase> {
+    cases.iter().filter(|case| case.count < range::MOST).copied().collect()
+}
+
 /// What runs under callgrind.
-pub fn run(cases: &[Case], batches: &[BatchCase]) {
+pub fn run(cases: &[Case], batches: &[BatchCase], ranges: &[RangeCase]) {
     for case in cases {
         let mut input = Input::new(*case);
         input.compare();
@@ -54,10 +71,18 @@ pub fn run(cases: &[Case], batches: &[BatchCase]) {
         let rust = input.rust();
         count(|| rust.take());
     }
+    for case in ranges {
+        let input = RangeInput::new(*case);
+        input.compare();
+        let mut ours = input.ours();
+        count(|| ours.test());
+        let rust = input.rust();
+        count(|| rust.test());
+    }
 }
 
 /// Runs the benchmark under callgrind and prints a line a case.
-pub fn print(cases: &[Case], batches: &[BatchCase], words: &[String]) {
+pub fn print(cases: &[Case], batches: &[BatchCase], ranges: &[RangeCase], words: &[String]) {
     let directory = Path::new(env!("CARGO_MANIFEST_DIR")).join("../target/callgrind");
     let _ = fs::remove_dir_all(&directory);
     fs::create_dir_all(&directory).expect("a directory for the counts");
@@ -100,6 +125,17 @@ pub fn print(cases: &[Case], batches: &[BatchCase], words: &[String]) {
     }
     to_calls.print("batches / separate calls");
     to_rust.print("batches / Rust");
+    if !ranges.is_empty() {
+        println!("| instructions a call | ours | Rust | ratio |");
+        println!("|---|---|---|---|");
+    }
+    let mut ratios = Ratios::default();
+    for case in ranges {
+        let [ours, rust] = [next(), next()];
+        let ratio = ratios.add(ours, rust);
+        println!("| {case} | {ours:.0} | {rust:.0} | {ratio:.2} |");
+    }
+    ratios.print("range tests");
 }
 
 /// Their geometric mean and the worst.

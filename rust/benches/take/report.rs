@@ -1,8 +1,9 @@
 //! The results of timing: a line a case, a table by layout and size, and one line over all; then the
-//! same of batches, by their number of columns.
+//! same of batches, by their number of columns, and of the range test, by what is outside.
 
 use crate::batch::{self, BatchCase};
 use crate::case::{self, Case, SIZES, SMALL};
+use crate::range::{self, RangeCase};
 use crate::timing::{BatchTimes, Times};
 
 pub fn print(results: &[(Case, Times)]) {
@@ -61,6 +62,25 @@ pub fn print_batches(results: &[(BatchCase, BatchTimes)]) {
         let batches = ratios.len();
         println!("{batches} batches / {side}: geometric mean {mean:.2}, worst {worst:.2}");
     }
+}
+
+pub fn print_ranges(results: &[(RangeCase, Times)]) {
+    let ratios: Vec<(RangeCase, f64)> =
+        results.iter().map(|(case, times)| (*case, times.ours / times.rust)).collect();
+    println!();
+    for ((case, Times { ours, rust }), (_, ratio)) in results.iter().zip(&ratios) {
+        println!("{case}: {ours:.0} and {rust:.0} ns a call, ratio {ratio:.2}");
+    }
+    println!();
+    println!("| range test, ours / Rust: mean (worst) | 1,000,000 | 100,000 | 40 |");
+    println!("|---|---|---|---|");
+    for outside in range::OUTSIDE {
+        let cell = |count| summary(&ratios, |case| case.outside == outside && case.count == count);
+        println!("| {outside} | {} |", range::COUNTS.map(cell).join(" | "));
+    }
+    println!();
+    let (mean, worst) = mean_and_worst(ratios.iter().map(|(_, ratio)| *ratio));
+    println!("{} range tests: geometric mean {mean:.2}, worst {worst:.2}", ratios.len());
 }
 
 fn summary<C>(ratios: &[(C, f64)], chosen: impl Fn(&C) -> bool) -> String {

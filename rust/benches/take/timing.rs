@@ -7,6 +7,7 @@ use std::time::{Duration, Instant};
 use crate::batch::{BatchCase, BatchInput};
 use crate::case::Case;
 use crate::input::Input;
+use crate::range::{RangeCase, RangeInput};
 
 /// How often all cases are gone through.
 const ROUNDS: usize = 2;
@@ -32,24 +33,29 @@ pub struct BatchTimes {
     pub rust: f64,
 }
 
-type Results = (Vec<(Case, Times)>, Vec<(BatchCase, BatchTimes)>);
+type Results = (Vec<(Case, Times)>, Vec<(BatchCase, BatchTimes)>, Vec<(RangeCase, Times)>);
 
-pub fn measure(cases: &[Case], batches: &[BatchCase]) -> Results {
+pub fn measure(cases: &[Case], batches: &[BatchCase], ranges: &[RangeCase]) -> Results {
     let most = f64::INFINITY;
     let none = Times { ours: most, rust: most };
     let none_of_batch = BatchTimes { ours: most, in_turn: most, rust: most };
     let mut results: Vec<_> = cases.iter().map(|case| (*case, none)).collect();
     let mut batch_results: Vec<_> = batches.iter().map(|case| (*case, none_of_batch)).collect();
+    let mut range_results: Vec<_> = ranges.iter().map(|case| (*case, none)).collect();
     for round in 1..=ROUNDS {
-        eprintln!("round {round} of {ROUNDS}, {} cases", cases.len() + batches.len());
+        let all = cases.len() + batches.len() + ranges.len();
+        eprintln!("round {round} of {ROUNDS}, {all} cases");
         for (case, best) in &mut results {
             time(*case, best);
         }
         for (case, best) in &mut batch_results {
             time_batch(*case, best);
         }
+        for (case, best) in &mut range_results {
+            time_range(*case, best);
+        }
     }
-    (results, batch_results)
+    (results, batch_results, range_results)
 }
 
 fn time(case: Case, best: &mut Times) {
@@ -75,6 +81,18 @@ fn time_batch(case: BatchCase, best: &mut BatchTimes) {
         best.in_turn = best.in_turn.min(nanoseconds(calls, || in_turn.take()));
         let rust = input.rust();
         best.rust = best.rust.min(nanoseconds(calls, || rust.take()));
+    }
+}
+
+fn time_range(case: RangeCase, best: &mut Times) {
+    let input = RangeInput::new(case);
+    input.compare();
+    let calls = calls(nanoseconds(3, || input.ours().test()));
+    for _ in 0..RUNS {
+        let mut ours = input.ours();
+        best.ours = best.ours.min(nanoseconds(calls, || ours.test()));
+        let rust = input.rust();
+        best.rust = best.rust.min(nanoseconds(calls, || rust.test()));
     }
 }
 
