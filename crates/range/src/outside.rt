@@ -50,7 +50,7 @@ fn block_len(left: usize) -> usize
 }
 
 // The first number of the first block in which some number is above last; the count where none is. A block is a part of the buffer, so that the loop
-// over it counts from 0 up to at most 512: from one place to another it would count in 64 bits on a core of 32.
+// over it counts from 0 up to at most 512: from one place to another takes more instructions on a core of 32 bits.
 fn block_above(last: u64, w: usize, count: usize, index_data: &[u8]) -> usize
     requires { ⌜ isNumberWidth w ≡ true ⌝ }
     requires { ⌜ (last < 256 ^ w) × (count * w ≤ length (now «index_data»)) ⌝ }
