@@ -1,19 +1,19 @@
 -- A gather depends on the picks of an index column alone; of them on the valid ones' rows alone. Assumes nothing.
 use mathlib.Core.Path.{_≡_, refl, sym, ap, _∙_, subst}
-use mathlib.Core.Bool.{Bool, true, false, cond, _&&_}
+use mathlib.Core.Bool.{Bool, true, false, _&&_}
 use mathlib.Core.List.{[], _∷_}
 use Prim.Native.Nat.{ℕ, _<_}
 use lib.Dec.{leb, ltb}
 use Rattle.bits.specs.Sequences.{first}
 use Rattle.tables.specs.Columns.{Column, IndexColumn, indexValid, index}
 use Rattle.tables.specs.Answers.{refuse, passes, line, firstOf}
-use Rattle.tables.specs.Stages.{_orElse_, formRefusal}
+use Rattle.tables.specs.Stages.{formRefusal}
 use Rattle.tables.specs.Refusals.{indexRefusal}
 use Rattle.tables.specs.Rows.{Rows, rowsOf, rowsLike}
 use Rattle.tables.specs.Picks.{Picks, picksOf}
 use Rattle.gathers.specs.Taken.{pickedValid, pickRows}
 use Rattle.gathers.specs.Stored.{Output}
-use Rattle.gathers.specs.Gather.{outOfRange, gather}
+use Rattle.gathers.specs.Gather.{isOutside, outOfRange, gather}
 use Rattle.gathers.specs.Stages.{rangeRefusal}
 use Rattle.gathers.specs.Alike.{SamePicks}
 use Rattle.bits.proofs.Sequences.{first-cong}
@@ -53,7 +53,7 @@ module _ (x y : IndexColumn) (s : SamePicks (picksOf x) (picksOf y)) where
   unfolding outOfRange
   range-same n =
       first-cong (x .indices .count) (λ j h. both-valid (indexValid x j) (indexValid y j) (s .valid j h) (λ e. ap (leb n) (s .row j h e)))
-      ∙ ap (λ (m : ℕ). first m (λ j. indexValid y j && leb n (index y j))) (sym (s .count))
+      ∙ ap (λ (m : ℕ). first m (isOutside n y)) (sym (s .count))
 
   refused-same : (n : ℕ) → rangeRefusal n x ≡ rangeRefusal n y
   unfolding rangeRefusal

@@ -1,7 +1,7 @@
 -- The test of one index of the range scan: the number first, and the validity bit where the number is out of range. Indices that are passed over by
 -- their numbers alone. Assumes nothing.
 use mathlib.Core.Path.{_≡_, sym, ap, _∙_, subst}
-use mathlib.Core.Bool.{Bool, true, false, _&&_}
+use mathlib.Core.Bool.{Bool, true, false}
 use Prim.Native.Nat.{ℕ, _+_, _*_, _≤_, _<_}
 use native.Mathlib.Omega.{arith}
 use lib.Dec.{leb}
@@ -13,6 +13,7 @@ use Rattle.bits.specs.Bits.{bitValue, validAt}
 use Rattle.tables.specs.Columns.{IndexColumn, indexValid, index}
 use Rattle.tables.specs.Answers.{passes}
 use Rattle.tables.specs.Refusals.{indexRefusal}
+use Rattle.gathers.specs.Gather.{isOutside}
 use Rattle.range.specs.Looked.{isTooNarrow}
 use Rattle.range.specs.Scanned.{Scannable}
 use Rattle.bits.proofs.Tests.{and-false-right}
@@ -20,24 +21,20 @@ use Rattle.bits.proofs.Sequences.{any-none}
 use Rattle.tables.proofs.There.{index-there, index-number, index-read, index-valid-read}
 use Rattle.tables.proofs.Facts.{IndexFormed, index-formed}
 
--- index j is valid, and names none of n rows
-abbrev pub outside : ℕ → IndexColumn → ℕ → Bool
-outside n x j = indexValid x j && leb n (index x j)
-
 module _ (n : ℕ) (x : IndexColumn) (j : ℕ) where
-  pub below : {w r : ℕ} → x .indices .width ≡ w → r ≡ numberAt w (x .«data») j → r < n → outside n x j ≡ false
+  pub below : {w r : ℕ} → x .indices .width ≡ w → r ≡ numberAt w (x .«data») j → r < n → isOutside n x j ≡ false
   below e d h = and-false-right (indexValid x j) (lt-leb n (index x j) (omega (arith, index-read x j e d)))
 
   module _ {b : ℕ} (v : b ≡ bitValue (validAt (x .validity) (x .indices .«validity_bit») j)) where
-    pub null : (b ≡ 1 → ⊥) → outside n x j ≡ false
+    pub null : (b ≡ 1 → ⊥) → isOutside n x j ≡ false
     null h = rw (index-valid-read x j v (ne-eqb b 1 h))
 
-    pub found : {w r : ℕ} → x .indices .width ≡ w → r ≡ numberAt w (x .«data») j → n ≤ r → b ≡ 1 → outside n x j ≡ true
+    pub found : {w r : ℕ} → x .indices .width ≡ w → r ≡ numberAt w (x .«data») j → n ≤ r → b ≡ 1 → isOutside n x j ≡ true
     found e d h t = rw (index-valid-read x j v (eq-eqb b 1 t)) (le-leb n (index x j) (omega (arith, index-read x j e d)))
 
 -- where no number is, no index is
 pub none-outside : (n : ℕ) (x : IndexColumn) (m : ℕ) → any m (λ j. leb n (numberAt (x .indices .width) (x .«data») j)) ≡ false
-    → (j : ℕ) → j < m → outside n x j ≡ false
+    → (j : ℕ) → j < m → isOutside n x j ≡ false
 none-outside n x m e j h =
     and-false-right (indexValid x j) (ap (leb n) (index-number x j) ∙ any-none m (λ j. leb n (numberAt (x .indices .width) (x .«data») j)) e j h)
 

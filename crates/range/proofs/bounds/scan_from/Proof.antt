@@ -8,10 +8,11 @@ use borrow.Author.Count.{below-more}
 use Rattle.tables.specs.declared.refusal.Checked.the-variants.{Fit}
 use Rattle.tables.specs.Columns.{indexColumnAt}
 use Rattle.tables.specs.Stages.{checkedNumbers}
+use Rattle.gathers.specs.Gather.{isOutside}
 use Rattle.tables.proofs.Facts.{index-formed}
 use Rattle.tables.proofs.There.{index-valid-there}
 use Rattle.gathers.proofs.Stages.{range-accepted, range-refused}
-use Rattle.range.proofs.Scan.{outside, below, null, found, number-there, none-outside}
+use Rattle.range.proofs.Scan.{below, null, found, number-there, none-outside}
 use Rattle.range.proofs.Looked.{looked-all, looked-through}
 use Rattle.range.proofs.bounds.scan_from.Statement.{statement}
 use Rattle.range.proofs.bounds.scan_from.Tie as tie
@@ -21,7 +22,7 @@ Inv-loop rows indices w index-data index-validity from checked₀ looked₀ coun
     (j ≤ count)
     × (checked ≡ Fit)
     × (looked ≡ count)
-    × ((k : ℕ) → k < j → outside rows (record { indices = indices; «data» = index-data; validity = index-validity }) k ≡ false)
+    × ((k : ℕ) → k < j → isOutside rows (record { indices = indices; «data» = index-data; validity = index-validity }) k ≡ false)
 
 abbrev μ-loop : tie.MeasureT-loop
 μ-loop rows indices w index-data index-validity from checked₀ looked₀ count j₀ checked looked j = count - j
@@ -57,7 +58,7 @@ loop-again c =
     let f = c .before .before .before .before .before .before in
     let a = f .args in
     let x = indexColumnAt (a .indices) (a .index-data) (a .index-validity) in
-    let good : outside (a .rows) x (at .j) ≡ false =
+    let good : isOutside (a .rows) x (at .j) ≡ false =
     ⊎-elim (λ w. null (a .rows) x (at .j) (w .1 .ensures) (w .2 .left)) (λ w. below (a .rows) x (at .j) (f .pre .1) (c .before .number-at .ensures) (w .left)) (c .if1 .came) in
     (omega arith, at .inv .1, at .inv .2, below-more _ _ (at .inv .3) good)
 
@@ -67,7 +68,7 @@ returns c =
     let f = c .before .before .before .before in
     let a = f .args in
     let x = indexColumnAt (a .indices) (a .index-data) (a .index-validity) in
-    let none : (k : ℕ) → k < a .indices .count → outside (a .rows) x k ≡ false = λ k h. at .inv .3 k (omega arith) in
+    let none : (k : ℕ) → k < a .indices .count → isOutside (a .rows) x k ≡ false = λ k h. at .inv .3 k (omega arith) in
     (ap checkedNumbers (at .inv .1) ∙ sym (range-accepted (a .rows) x none), at .inv .2 ∙ sym (looked-all (a .rows) x (f .pre .0 .wide) none))
 
 returns-2 : tie.Need-returns-2 Inv-loop μ-loop
