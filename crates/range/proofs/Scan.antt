@@ -7,7 +7,7 @@ use native.Mathlib.Omega.{arith}
 use lib.Dec.{leb}
 use lib.ListN.{length}
 use borrow.Author.Tests.{le-leb, lt-leb, eq-eqb, ne-eqb}
-use Rattle.bits.specs.Sequences.{any}
+use Rattle.bits.specs.Sequences.{any, first}
 use Rattle.bits.specs.Numbers.{numberAt, isNumberWidth}
 use Rattle.bits.specs.Bits.{bitValue, validAt}
 use Rattle.tables.specs.Columns.{IndexColumn, indexValid, index}
@@ -15,11 +15,12 @@ use Rattle.tables.specs.Answers.{passes}
 use Rattle.tables.specs.Refusals.{indexRefusal}
 use Rattle.gathers.specs.Gather.{isOutside}
 use Rattle.range.specs.Looked.{isTooNarrow}
-use Rattle.range.specs.Scanned.{Scannable}
+use Rattle.range.specs.Scanned.{blockOf, Scannable}
 use Rattle.bits.proofs.Tests.{and-false-right}
 use Rattle.bits.proofs.Sequences.{any-none}
 use Rattle.tables.proofs.There.{index-there, index-number, index-read, index-valid-read}
 use Rattle.tables.proofs.Facts.{IndexFormed, index-formed}
+use Rattle.range.proofs.Numbers.{before-block}
 
 module _ (n : ℕ) (x : IndexColumn) (j : ℕ) where
   pub below : {w r : ℕ} → x .indices .width ≡ w → r ≡ numberAt w (x .«data») j → r < n → isOutside n x j ≡ false
@@ -57,10 +58,15 @@ module _ (x : IndexColumn) {w : ℕ} (e : x .indices .width ≡ w) where
 
   -- what the tests before the scan have told
   pub scannable : (n : ℕ) {t : Bool} {from : ℕ} → passes (indexRefusal x) ≡ true → t ≡ isTooNarrow n w → t ≡ false
-      → (from ≤ x .indices .count) × (any from (λ j. leb n (numberAt w (x .«data») j)) ≡ false) → Scannable n x from
-  scannable n {from = from} p d h b = record {
-    tested = p;
-    wide = narrow-at n d h;
-    inside = b .0;
-    before = subst (λ (v : ℕ). any from (λ j. leb n (numberAt v (x .«data») j)) ≡ false) (sym e) (b .1);
-  }
+      → from ≡ blockOf (x .indices .count) (first (x .indices .count) (λ j. leb n (numberAt w (x .«data») j))) → Scannable n x from
+  scannable n p d h b =
+      let m : ℕ = x .indices .count in
+      let before = before-block m (λ j. leb n (numberAt (x .indices .width) (x .«data») j)) in
+      let at : blockOf m (first m (λ j. leb n (numberAt (x .indices .width) (x .«data») j))) ≡ blockOf m (first m (λ j. leb n (numberAt w (x .«data») j))) =
+      ap (λ (v : ℕ). blockOf m (first m (λ j. leb n (numberAt v (x .«data») j)))) e in
+      subst (Scannable n x) (at ∙ sym b) (record {
+        tested = p;
+        wide = narrow-at n d h;
+        inside = before .0;
+        before = before .1;
+      })

@@ -1,5 +1,5 @@
-// Refusal 5, the range scan: the first valid index that is not below the row count. Numbers under null slots are passed over: the number is
-// tested first, and the validity bit only where that fails.
+// Refusal 5, the range scan: the first valid index that is not below the row count, and how many indices were looked at. Numbers under null slots are
+// passed over: the number is tested first, and the validity bit only where that fails.
 use crate::outside::block_outside;
 use bits::number::number_at;
 use buffers::bit::is_valid;

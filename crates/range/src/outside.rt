@@ -1,13 +1,14 @@
-// How far no number of an index column, also none under a null index, is that of no row. Numbers are compared block by block: within one without
-// leaving early, many at once.
+// The block of the first number of an index column, if only under a null index, that is that of no row. Numbers are compared block by block: within one
+// without leaving early, many at once.
 use bits::number::number_at;
 ghost use mathlib.Core.Path.{_≡_};
-ghost use mathlib.Core.Bool.{true, false};
-ghost use Prim.Native.Nat.{_+_, _-_, _*_, _^_, _≤_, _<_};
+ghost use mathlib.Core.Bool.{true};
+ghost use Prim.Native.Nat.{_-_, _*_, _^_, _≤_, _<_};
 ghost use lib.Dec.{leb, ltb};
 ghost use lib.ListN.{length};
-ghost use Rattle.bits.specs.Sequences.{any};
+ghost use Rattle.bits.specs.Sequences.{any, first};
 ghost use Rattle.bits.specs.Numbers.{numberAt, isNumberWidth};
+ghost use Rattle.range.specs.Scanned.{blockOf};
 
 // Whether x is above last, of numbers of w bytes: compared at that width, so that a loop over many compares as many at once.
 fn is_above(last: u64, x: u64, w: usize) -> bool
@@ -49,12 +50,12 @@ fn block_len(left: usize) -> usize
     if left < 512 { left } else { 512 }
 }
 
-// The first number of the first block in which some number is above last; the count where none is. A block is a part of the buffer, so that the loop
-// over it counts from 0 up to at most 512: from one place to another takes more instructions on a core of 32 bits.
+// Where the block of the first number above last starts; the count where none is. A block is a part of the buffer, so that the loop over it counts from 0
+// up to at most 512: from one place to another takes more instructions on a core of 32 bits.
 fn block_above(last: u64, w: usize, count: usize, index_data: &[u8]) -> usize
     requires { ⌜ isNumberWidth w ≡ true ⌝ }
     requires { ⌜ (last < 256 ^ w) × (count * w ≤ length (now «index_data»)) ⌝ }
-    ensures { λ r. ⌜ (r ≤ count) × (any r (λ j. ltb last (numberAt w (now («index_data» .entry)) j)) ≡ false) ⌝ }
+    ensures { λ r. ⌜ r ≡ blockOf count (first count (λ j. ltb last (numberAt w (now («index_data» .entry)) j))) ⌝ }
 {
     let mut from = 0;
     while from < count {
@@ -67,12 +68,11 @@ fn block_above(last: u64, w: usize, count: usize, index_data: &[u8]) -> usize
     from
 }
 
-// The first number of the first block in which some number is that of none of so many rows, which numbers of that width can hold; the count where
-// none is.
+// Where the block of the first number starts that is that of none of so many rows, which numbers of that width can hold; the count where there is none.
 pub fn block_outside(rows: u64, w: usize, count: usize, index_data: &[u8]) -> usize
     requires { ⌜ isNumberWidth w ≡ true ⌝ }
     requires { ⌜ (rows < 256 ^ w) × (count * w ≤ length (now «index_data»)) ⌝ }
-    ensures { λ r. ⌜ (r ≤ count) × (any r (λ j. leb rows (numberAt w (now («index_data» .entry)) j)) ≡ false) ⌝ }
+    ensures { λ r. ⌜ r ≡ blockOf count (first count (λ j. leb rows (numberAt w (now («index_data» .entry)) j))) ⌝ }
 {
     if rows == 0 {
         return 0;

@@ -1,7 +1,7 @@
 -- `range::outside::block_above` meets its contract. The loop's invariant: no number before the block is above last. Assumes nothing.
-use mathlib.Core.Path.{_≡_, refl}
-use mathlib.Core.Bool.{false}
-use Prim.Native.Nat.{_+_, _*_, _-_, _≤_}
+use mathlib.Core.Path.{_≡_, refl, sym, ap, _∙_}
+use mathlib.Core.Bool.{Bool, false}
+use Prim.Native.Nat.{ℕ, _+_, _*_, _%_, _-_, _≤_, _<_}
 use native.Mathlib.Nat.{mul-le-mul-right}
 use native.Mathlib.Omega.{arith}
 use lib.Dec.{ltb}
@@ -9,18 +9,19 @@ use lib.ListN.{length}
 use borrow.Author.Needs.{needs}
 use Rattle.bits.specs.Sequences.{any}
 use Rattle.bits.specs.Numbers.{numberAt}
-use Rattle.range.proofs.Numbers.{block-there, none-more}
+use Rattle.range.proofs.Numbers.{block-there, block-numbers, none-more, block-met, none-met}
 use Rattle.range.proofs.outside.block_above.Statement.{statement}
 use Rattle.range.proofs.outside.block_above.Tie as tie
 
 abbrev Inv-loop : tie.InvT-loop
-Inv-loop last w count index-data from₀ from = (from ≤ count) × (any from (λ j. ltb last (numberAt w index-data j)) ≡ false)
+Inv-loop last w count index-data from₀ from =
+    (from ≤ count) × (from < count → from % 512 ≡ 0) × (any from (λ j. ltb last (numberAt w index-data j)) ≡ false)
 
 abbrev μ-loop : tie.MeasureT-loop
 μ-loop last w count index-data from₀ from = count - from
 
 loop-holds : tie.Need-loop-holds Inv-loop μ-loop
-loop-holds c = (omega arith, refl)
+loop-holds c = (omega arith, λ h. refl, refl)
 
 sub-block-len : tie.Need-sub-block-len Inv-loop μ-loop
 sub-block-len c = omega arith
@@ -74,13 +75,29 @@ loop-again c =
     let n = b .block-len .result in
     let inside : (l .from + n) * a .w ≤ a .count * a .w = mul-le-mul-right (a .w) (omega arith) in
     let fits : (l .from + n) * a .w ≤ length (a .index-data .now) = omega (arith, f .pre .1 .1) in
-    (omega arith, none-more (a .w) (l .from) n (a .index-data .now) fits (ltb (a .last)) (l .inv .1) (c .before .some-above .ensures) (c .if1 .left))
+    let start : l .from % 512 ≡ 0 = l .inv .1 (b .before .loop-test .taken) in
+    let none = sym (block-numbers (a .w) (l .from) n (a .index-data .now) fits (ltb (a .last))) ∙ sym (c .before .some-above .ensures) ∙ c .if1 .left in
+    (omega arith, λ h. omega arith, none-more (λ j. ltb (a .last) (numberAt (a .w) (a .index-data .now) j)) (l .from) n (l .inv .2) none)
 
 returns : tie.Need-returns Inv-loop μ-loop
-returns c = c .before .loop .inv
+returns c =
+    let l = c .before .loop in
+    let a = c .before .before .before .args in
+    let p : ℕ → Bool = λ j. ltb (a .last) (numberAt (a .w) (a .index-data .now) j) in
+    let all : l .from ≡ a .count = omega arith in
+    all ∙ none-met (a .count) p (ap (λ (m : ℕ). any m p) (sym all) ∙ l .inv .2)
 
 returns-2 : tie.Need-returns-2 Inv-loop μ-loop
-returns-2 c = c .before .before .before .before .before .loop .inv
+returns-2 c =
+    let b = c .before .before .before in
+    let l = b .before .before .loop in
+    let f = b .before .before .before .before in
+    let a = f .args in
+    let n = b .block-len .result in
+    let inside : (l .from + n) * a .w ≤ a .count * a .w = mul-le-mul-right (a .w) (omega arith) in
+    let fits : (l .from + n) * a .w ≤ length (a .index-data .now) = omega (arith, f .pre .1 .1) in
+    let met = sym (block-numbers (a .w) (l .from) n (a .index-data .now) fits (ltb (a .last))) ∙ sym (c .before .some-above .ensures) ∙ c .if1 .taken in
+    block-met (a .count) (λ j. ltb (a .last) (numberAt (a .w) (a .index-data .now) j)) (l .from) n (l .inv .1 (b .before .loop-test .taken)) (omega arith) (omega arith) (l .inv .2) met
 
 pub block-above-spec : {M : Type 1} → statement M
 block-above-spec =

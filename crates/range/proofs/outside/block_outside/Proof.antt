@@ -2,12 +2,14 @@
 use mathlib.Core.Path.{_∙_}
 use borrow.Author.Needs.{needs}
 use Rattle.bits.specs.Numbers.{numberAt}
-use Rattle.range.proofs.Numbers.{outside-above}
+use Rattle.range.proofs.Numbers.{outside-none, outside-above}
 use Rattle.range.proofs.outside.block_outside.Statement.{statement}
 use Rattle.range.proofs.outside.block_outside.Tie as tie
 
 returns : tie.Need-returns
-returns c = search needs
+returns c =
+    let a = c .before .before .args in
+    outside-none (a .rows) (a .count) (λ j. numberAt (a .w) (a .index-data .now) j) (c .if1 .taken)
 
 sub-block-above : tie.Need-sub-block-above
 sub-block-above c = search needs
@@ -17,9 +19,8 @@ block-above-requires c κs = search needs
 
 returns-2 : tie.Need-returns-2
 returns-2 c =
-    let b = c .block-above in
     let a = c .before .before .before .args in
-    (b .ensures .0, outside-above (a .rows) (b .result) (λ j. numberAt (a .w) (a .index-data .now) j) (c .before .if1 .left) ∙ b .ensures .1)
+    c .block-above .ensures ∙ outside-above (a .rows) (a .count) (λ j. numberAt (a .w) (a .index-data .now) j) (c .before .if1 .left)
 
 pub block-outside-spec : {M : Type 1} → statement M
 block-outside-spec =
