@@ -11,7 +11,7 @@ use descriptions::record::describe;
 use tables::table::Indices;
 
 // The data bytes and the null rows of all columns.
-#[derive(Drop)]
+#[derive(Clone, Copy)]
 pub struct Written {
     pub total: u64,
     pub nulls: u64,

@@ -24,14 +24,14 @@ use tables::refusal::Checked;
 use tables::table::{Indices, Layout, Lengths, Table};
 
 // What the tests of a column tell: the first refusal, and where there is none how many bytes of each output the rows need.
-#[derive(Drop)]
+#[derive(Clone, Copy)]
 pub struct Through {
     pub checked: Checked,
     pub needed: Lengths,
 }
 
 // How many bytes of each output the rows took, and how many rows are null.
-#[derive(Drop)]
+#[derive(Clone, Copy)]
 pub struct Taken {
     pub needed: Lengths,
     pub nulls: u64,

@@ -6,7 +6,7 @@ ghost use Rattle.entries.specs.Answered.{answered_numbers};
 use tables::refusal::{Answer, Refusal};
 
 // Gathered: `total` data bytes were written, and `nulls` of the rows are null. Refused: nothing was written.
-#[derive(Drop)]
+#[derive(Clone, Copy)]
 pub enum Answered {
     Gathered { total: u64, nulls: u64 },
     Refused(Refusal),

@@ -1,4 +1,6 @@
 // How many entries the output rows of a column of variable width have, and their running totals (layer 5). Contracts speak of the numbers and buffers that
 // are read. No loop has a branch on a row's validity: it cannot be guessed.
+#![tactic(auto)]
+
 mod row; // row.rt: one output row
 pub mod total; // total.rt: the sum of all, the first row past a limit, and the offsets of the output

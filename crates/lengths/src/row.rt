@@ -9,7 +9,7 @@ ghost use Rattle.lengths.specs.Totals.{selected_entries, shown_entries};
 use bits::number::{number_at, wide};
 
 // The row of an output row, and 1; 0 and 0 where the output row is null.
-#[derive(Drop)]
+#[derive(Clone, Copy)]
 pub struct Taken {
     pub row: usize,
     pub valid: usize,

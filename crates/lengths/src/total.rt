@@ -10,7 +10,7 @@ use crate::row::{masked_entries, shown_entries};
 use bits::number::put_number_at;
 
 // An output row, or their count, and the running total before and after it.
-#[derive(Drop)]
+#[derive(Clone, Copy)]
 pub struct Counted {
     pub place: u64,
     pub before: u64,
@@ -18,7 +18,7 @@ pub struct Counted {
 }
 
 // Where the validities of the rows and of the indices start, and how many indices there are.
-#[derive(Drop)]
+#[derive(Clone, Copy)]
 pub struct Places {
     pub bit: usize,
     pub index_bit: usize,

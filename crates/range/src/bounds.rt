@@ -17,7 +17,7 @@ use tables::refusal::{Checked, Refusal};
 use tables::table::Indices;
 
 // What the scan answers, and how many indices it looked at.
-#[derive(Drop)]
+#[derive(Clone, Copy)]
 pub struct Scanned {
     pub checked: Checked,
     pub looked: u64,

@@ -12,7 +12,7 @@ use tables::refusal::Checked;
 use tables::table::Table;
 
 // Where a row lies in the data.
-#[derive(Drop)]
+#[derive(Clone, Copy)]
 pub enum Found {
     At { from: usize, to: usize },
     Nothing,

@@ -1,6 +1,8 @@
 // Runs what is too long for a line of text: the paper's trial 10, which overflows, and trial 11, on byte buffers; refusal 7 at each place; the row
 // reader; and the range scan, which tells more than the four numbers do. Writes a line for each, which says what was answered, and whether the outputs
 // were kept.
+#![tactic(auto)]
+
 use bits::number::wide;
 use checks::columns::check_columns;
 use entries::answer::{Answered, answered_numbers};

@@ -16,7 +16,7 @@ use tables::refusal::{Checked, Refusal};
 use tables::table::{Indices, Kind, Table};
 
 // That the rows can be gathered and how many bytes they need, or why they cannot, and 0.
-#[derive(Drop)]
+#[derive(Clone, Copy)]
 pub struct Measured {
     pub checked: Checked,
     pub total: u64,

@@ -13,7 +13,7 @@ const MOST: usize = 3432;
 const SOURCES: usize = MOST + 3 * ROOM;
 
 // Where each source buffer ends.
-#[derive(Drop)]
+#[derive(Clone, Copy)]
 struct BatchEnds {
     descriptions: usize,
     body: usize,

@@ -15,7 +15,7 @@ const FILL: u8 = 0xEE;
 
 // Alike, or the first difference: number `which` of the answer (0 number, 1 place, 2 total, 3 nulls), or a byte of output `which` (1 validity, 2 offsets,
 // 3 data, 4 what follows the answer). Null bytes: a published answer has bytes in a null row of kind 3 or 4, and was not run.
-#[derive(Drop)]
+#[derive(Clone, Copy)]
 pub enum Verdict {
     Alike,
     Unreadable,

@@ -6,7 +6,7 @@ use hoglidra::export::hoglidra_take;
 const SOURCES: usize = 5 * ROOM;
 
 // Where each source buffer ends.
-#[derive(Drop)]
+#[derive(Clone, Copy)]
 struct Ends {
     data: usize,
     offsets: usize,

@@ -1,6 +1,8 @@
 // Runs every case of the files beside it through the exported entries, and compares each number of the answer and each byte of the outputs. Writes a line
 // for each file, and before it the file's first difference, if there is one. The answers of take-kernels.txt are published ones: the file keeps them byte
 // for byte, and `main`, which names it, has them compared with zeros below nulls (published.rt). One line more says how many had other bytes there.
+#![tactic(auto)]
+
 mod batch; // batch.rt: the columns of a case that has several
 mod case; // case.rt: a case, run and compared
 mod column; // column.rt: the column of a case that has one

@@ -11,7 +11,7 @@ use crate::text::{after, byte_at, byte_count, digit, field, is_text, number, par
 const MOST_LINE: usize = 4096;
 
 // What came of an answer, and whether it has other bytes than zeros below a null.
-#[derive(Drop)]
+#[derive(Clone, Copy)]
 pub struct Outcome {
     pub verdict: Verdict,
     pub zeroed: bool,

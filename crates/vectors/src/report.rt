@@ -3,7 +3,7 @@ use crate::case::Verdict;
 use libc::STDOUT_FILENO;
 
 // How the cases of a file went so far. `zeroed` counts, by kind, the published answers that have other bytes than zeros below a null.
-#[derive(Drop)]
+#[derive(Clone, Copy)]
 pub struct Tally {
     pub cases: u64,
     pub differ: u64,
