@@ -5,6 +5,7 @@ ghost use Rattle.tables.specs.Bounds.{RowFits};
 
 use tables::table::{Kind, Layout, Table, Uses};
 
+#[tactic(auto, unfolding(tables::specs::Kinds::kind_of))]
 pub fn kind_of(number: u64) -> Kind
     ensures { result ≡ kind_of number }
 {
