@@ -57,12 +57,13 @@ firmware-tools:
 	apt-get install -y --no-install-recommends qemu-user qemu-system-arm gcc-aarch64-linux-gnu libc6-dev-arm64-cross gcc-arm-linux-gnueabihf \
 	    libc6-dev-armhf-cross gcc-arm-linux-gnueabi libc6-dev-armel-cross gcc-riscv64-linux-gnu libc6-dev-riscv64-cross gcc-arm-none-eabi libnewlib-arm-none-eabi
 
-$(archive): crates.txt $(shell find crates -name '*.rt' -o -name '*.antt')
-	@mkdir -p target
-	@echo "rt staticlib (some minutes, if nothing is proved yet)"
-	@for name in hoglidra hoglidra_arrays; do rt staticlib $$name > target/staticlib.log 2>&1 || { cat target/staticlib.log; exit 1; }; done
-	@rm -rf target/objects $@ && mkdir target/objects
-	@cd target/objects && ar x ../staticlib/libhoglidra.a && ar x ../staticlib/libhoglidra_arrays.a && ar rcsD ../libhoglidra.a *.o
+# An object of the archive has the name of the library whose entry it holds.
+$(archive): crates.txt $(shell find crates -path '*/out' -prune -o \( -name '*.rt' -o -name '*.antt' \) -print)
+	@mkdir -p target/objects
+	@echo "rt lib (some minutes, if nothing is proved yet)"
+	@for name in hoglidra hoglidra_arrays; do (cd crates/$${name}_c && rt lib) > target/lib.log 2>&1 || { cat target/lib.log; exit 1; }; done
+	@for name in hoglidra hoglidra_arrays; do ar p crates/$${name}_c/out/lib$${name}_c.a > target/objects/$$name.o || exit 1; done
+	@rm -f $@ && cd target/objects && ar rcsD ../libhoglidra.a hoglidra.o hoglidra_arrays.o
 
 target/ingredients: examples/ingredients.c include/hoglidra.h $(archive)
 	$(compile) $< $(archive) -o $@

@@ -11,8 +11,7 @@ use entries::answer::answered_numbers;
 use entries::take::take;
 use tables::table::{Indices, Table};
 
-#[unsafe(no_mangle)]
-pub extern "C" fn hoglidra_take(
+pub fn hoglidra_take(
     kind: u64,
     width: u64,
     size: u64,

@@ -10,8 +10,7 @@ use arrays::take::take_arrays;
 use entries::answer::answered_numbers;
 use tables::table::Indices;
 
-#[unsafe(no_mangle)]
-pub extern "C" fn hoglidra_take_arrays(
+pub fn hoglidra_take_arrays(
     columns: u64,
     descriptions: &[u8],
     body: &[u8],

@@ -1,0 +1,46 @@
+// What C links to gather several columns (layer 6): the symbol `hoglidra_take_arrays`, whose promise is that of `hoglidra_arrays::export::hoglidra_take_arrays`, which it calls. A static library is
+// no library that other crates can use, so it is a crate of its own.
+#![tactic(auto)]
+
+ghost use Rattle.tables.specs.Columns.{index_column_at, index_description};
+ghost use Rattle.gathers.specs.Stored.{output_at};
+ghost use Rattle.batches.specs.Batch.{batch_at, gather_arrays};
+ghost use Rattle.arrays.specs.Entry.{GathersArrays};
+ghost use Rattle.answers.specs.Exported.{left, exported};
+
+#[unsafe(no_mangle)]
+pub extern "C" fn hoglidra_take_arrays(
+    columns: u64,
+    descriptions: &[u8],
+    body: &[u8],
+    index_width: u64,
+    count: u64,
+    index_validity_bit: u64,
+    index_data: &[u8],
+    index_validity: &[u8],
+    out_validity: &mut [u8],
+    out_offsets: &mut [u8],
+    out_data: &mut [u8],
+    answer: &mut [u8],
+) -> u64
+    ensures { GathersArrays (exported gather_arrays answer.old)
+        (batch_at columns descriptions.entry body.entry)
+        (index_column_at (index_description index_width count index_validity_bit) index_data.entry index_validity.entry)
+        (output_at out_validity.entry out_offsets.entry out_data.entry)
+        (left result answer.new (output_at out_validity.exit out_offsets.exit out_data.exit)) }
+{
+    hoglidra_arrays::export::hoglidra_take_arrays(
+        columns,
+        descriptions,
+        body,
+        index_width,
+        count,
+        index_validity_bit,
+        index_data,
+        index_validity,
+        out_validity,
+        out_offsets,
+        out_data,
+        answer,
+    )
+}
