@@ -1,26 +1,29 @@
 #!/usr/bin/env bash
 # The archive for the cores of cores.sh, with the kit and binutils alone.
-#   build.sh modules   target/firmware/NAME.ll for each entry: the LLVM module that `rt staticlib` makes on its way to the archive for x86-64, as text
+#   build.sh modules   target/firmware/NAME.ll for each entry: the LLVM module that `rt lib` makes on its way to the archive for x86-64, as text
 #   build.sh [CORE...] target/firmware/CORE/libhoglidra.a: the kit's clang over those texts, with their target's three lines changed; all cores if none is named
 # EXTRA has further words for clang, as -mfloat-abi=hard -mfpu=fpv5-d16; ALLOW has further symbols that may stay undefined.
 set -euo pipefail
 cd "$(dirname "$0")/.."
 . firmware/cores.sh
 out=target/firmware shipped=target/libhoglidra.a
-kit=${RATTLE_HOME:-$(dirname "$(dirname "$(readlink -f "$(command -v rt)")")")}
-bin=on/$(uname -m)/toolchain/bin
+kit=$(dirname "$(dirname "$(readlink -f "$(command -v rt)")")")
+bin=toolchain/bin
 
 fail() {
     echo "firmware: $*" >&2
     exit 1
 }
 
-# Has rt build the entries' archives once more, over a kit that is the kit link by link but for its clang: that keeps the module and the words it is given, and
-# then is the kit's. What comes out has to be what is there, byte for byte, which is put back, as old as it was.
+# Has rt build the entries' static libraries once more, over a kit that is the kit link by link but for its clang: that keeps the module and the words it is
+# given, and then is the kit's. What comes out has to be what is there, byte for byte, which is put back, as old as it was.
 keep_modules() {
-    local name
-    rm -rf "$out" && mkdir -p "$out"
-    cp -as "$kit" "$PWD/$out/kit" && rm "$out/kit/$bin/clang"
+    local name made
+    rm -rf "$out" && mkdir -p "$out/kit"
+    cp -as "$kit/bin" "$kit/toolchain" "$out/kit"
+    for made in "$kit"/*; do [ -e "$out/kit/${made##*/}" ] || ln -s "$made" "$out/kit"; done
+    # rt finds its kit by where these two lie
+    rm "$out/kit/bin/rt" "$out/kit/bin/rtlib.py" "$out/kit/$bin/clang" && cp "$kit/bin/rt" "$kit/bin/rtlib.py" "$out/kit/bin"
     cat >"$out/kit/$bin/clang" <<END
 #!/bin/sh
 for word; do case \$word in *.bc) cp "\$word" "$PWD/$out/module.bc" ;; esac; done
@@ -29,10 +32,12 @@ exec "$kit/$bin/clang" "\$@"
 END
     chmod +x "$out/kit/$bin/clang"
     for name in "${entries[@]}"; do
-        cp -p "target/staticlib/lib$name.a" "$out/made.a"
-        RATTLE_HOME=$PWD/$out/kit rt staticlib "$name" >"$out/rt.log" 2>&1 || { cat "$out/rt.log"; fail "rt staticlib failed"; }
-        cmp "target/staticlib/lib$name.a" "$out/made.a" || fail "$name comes out otherwise than it was"
-        mv "$out/made.a" "target/staticlib/lib$name.a"
+        made=crates/${name}_c/out/lib${name}_c.a
+        cp -p "$made" "$out/made.a"
+        rm -f "$out/module.bc"
+        (cd "crates/${name}_c" && "$OLDPWD/$out/kit/bin/rt" lib) >"$out/rt.log" 2>&1 || { cat "$out/rt.log"; fail "rt lib failed"; }
+        cmp "$made" "$out/made.a" || fail "$name comes out otherwise than it was"
+        mv "$out/made.a" "$made"
         "$kit/$bin/clang" --no-default-config -x ir -S -emit-llvm -O0 -Xclang -disable-llvm-passes "$out/module.bc" -o "$out/$name.ll"
     done
     rm -rf "$out/kit" "$out/module.bc"
@@ -115,7 +120,7 @@ archive() { # CORE
     target=$(echo 'void f(void) {}' | "$kit/$bin/clang" --no-default-config $words -x c -S -emit-llvm -O0 - -o - | grep '^target ')
     for name in "${entries[@]}"; do
         awk -v target="$target" '/^target datalayout = / { print target; n++; next } /^target triple = / { n++; next }
-            /^attributes #0 = / { n += sub(/ "target-cpu"="x86-64"/, ""); n += sub(/ "probe-stack"="inline-asm"/, "") } { print } END { exit n != 4 }' \
+            /^attributes #0 = / { n += sub(/ "target-cpu"="x86-64-v2"/, ""); n += sub(/ "probe-stack"="inline-asm" "stack-probe-size"="3072"/, "") } { print } END { exit n != 4 }' \
             "$out/$name.ll" >"$dir/$name.ll" || fail "the module names its target in another way than is known here"
         # shellcheck disable=SC2086
         compile "$dir/$name.ll" "$dir/$name.o" -fstack-usage $words
