@@ -1,0 +1,20 @@
+-- Where no offset falls and the last is at most H, none is bad.
+use Rattle.std.proofs.Common.{◌≡◌, ℕ, suc, ◌+◌, sym, ap, ◌∙◌, arith}
+use lib.Dec.{ltb}
+use borrow.Author.Tests.{ltb-false}
+use Rattle.bits.specs.Numbers.{number_at}
+use Rattle.tables.proofs.Forms.{first-fails, second-fails}
+use Rattle.tables.proofs.Scans.{all-good}
+use Rattle.offsets.proofs.check.bad_offset.Goals as goal
+
+pub returns : goal.returns
+returns c =
+    let a = c.args in
+    let n = c.number_at in
+    let r = c.falls_somewhere in
+    let f = c.if-falls_somewhere-number_at.false in
+    let last = number_at a.w a.offsets.now a.rows in
+    let e = first-fails (ltb a.most n.result) r.ensures f in
+    let l = second-fails r.result (ap (λ (m : ℕ). ltb a.most m) n.ensures) f in
+    let d : a.rows + 1 ≡ suc a.rows = omega arith in
+    d ∙ sym (all-good a.w a.offsets.now a.most a.rows c.requires.offsets.width c.requires.most_le_max_bytes e (ltb-false a.most last l))
