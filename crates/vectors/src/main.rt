@@ -13,35 +13,50 @@ mod text; // text.rt: fields, numbers and bytes of a text
 use case::run;
 use published::run_published;
 use report::{Tally, count_zeroed, not_read, print_tally, tell};
+use std::rt::Files;
+use std::{fs, io};
 use text::{field, find};
 
 // Runs a published answer, and counts it where zeros were put below its nulls.
-fn step_published(name: &[u8], text: &[u8], number: u64, tally: Tally) -> Tally {
+fn step_published(
+    rt: &impl Print,
+    name: &str,
+    text: &[u8],
+    number: u64,
+    tally: Tally,
+) -> io::Result<Tally> {
     let outcome = run_published(text);
     let verdict = outcome.verdict;
-    let told = tell(name, number, verdict, tally);
+    let told = tell(rt, name, number, verdict, tally)?;
     if outcome.zeroed {
-        return count_zeroed(text::number(field(text, 0)), told);
+        return Ok(count_zeroed(text::number(field(text, 0)), told));
     }
-    told
+    Ok(told)
 }
 
 // Takes in a line: an empty one, a comment, or a case.
-fn step(name: &[u8], text: &[u8], number: u64, published: bool, tally: Tally) -> Tally {
+fn step(
+    rt: &impl Print,
+    name: &str,
+    text: &[u8],
+    number: u64,
+    published: bool,
+    tally: Tally,
+) -> io::Result<Tally> {
     if text.len() == 0 {
-        return tally;
+        return Ok(tally);
     }
     if text[0] == b'#' {
-        return tally;
+        return Ok(tally);
     }
     if published {
-        return step_published(name, text, number, tally);
+        return step_published(rt, name, text, number, tally);
     }
     let verdict = run(text);
-    tell(name, number, verdict, tally)
+    tell(rt, name, number, verdict, tally)
 }
 
-fn run_text(name: &[u8], text: &[u8], published: bool) {
+fn run_text(rt: &impl Print, name: &str, text: &[u8], published: bool) -> io::Result<()> {
     let mut tally = Tally {
         cases: 0,
         differ: 0,
@@ -52,36 +67,35 @@ fn run_text(name: &[u8], text: &[u8], published: bool) {
     while from < text.len() {
         let to = find(text, from, b'\n');
         number = std::num::wrapping_add_u64(number, 1);
-        tally = step(name, &text[from..to], number, published, tally);
+        tally = step(rt, name, &text[from..to], number, published, tally)?;
         if text.len() <= to {
             break;
         }
         from = to + 1;
     }
-    print_tally(name, published, tally);
+    print_tally(rt, name, published, tally)
 }
 
 // No file is as long as this.
 const MOST_TEXT: usize = 262144;
 
-fn run_file(name: &[u8], published: bool) {
-    let mut text = [0u8; MOST_TEXT];
-    let file = os::open_read(name);
-    let end = io::read_full(file, &mut text);
-    libc::close(file);
-    if (end == 0) | (end == MOST_TEXT) {
-        not_read(name);
-        return;
+fn run_file<R: Files + Alloc + Print>(rt: &R, name: &str, published: bool) -> io::Result<()> {
+    let Ok(text) = fs::read(rt, name) else {
+        return not_read(rt, name);
+    };
+    let end = text.len();
+    if (end == 0) | (MOST_TEXT <= end) {
+        return not_read(rt, name);
     }
-    run_text(name, &text[..end], published);
+    run_text(rt, name, text.as_slice(), published)
 }
 
-fn main() {
-    run_file(b"trials.txt", false);
-    run_file(b"refusals.txt", false);
-    run_file(b"columnar-format.txt", false);
-    run_file(b"take-docs.txt", false);
-    run_file(b"take-kernels.txt", true);
-    run_file(b"null-rows.txt", false);
-    run_file(b"arrays.txt", false);
+fn main(rt: HostRuntime) -> io::Result<()> {
+    run_file(&rt, "trials.txt", false)?;
+    run_file(&rt, "refusals.txt", false)?;
+    run_file(&rt, "columnar-format.txt", false)?;
+    run_file(&rt, "take-docs.txt", false)?;
+    run_file(&rt, "take-kernels.txt", true)?;
+    run_file(&rt, "null-rows.txt", false)?;
+    run_file(&rt, "arrays.txt", false)
 }

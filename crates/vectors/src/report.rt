@@ -1,6 +1,6 @@
 // What the program writes: the first difference of a file, and a line for each file.
 use crate::case::Verdict;
-use libc::STDOUT_FILENO;
+use std::io;
 
 // How the cases of a file went so far. `zeroed` counts, by kind, the published answers that have other bytes than zeros below a null.
 #[derive(Clone, Copy)]
@@ -10,43 +10,43 @@ pub struct Tally {
     pub zeroed: [u64; 7],
 }
 
-fn write(text: &[u8]) {
-    io::write_all(STDOUT_FILENO, text);
+fn write(rt: &impl Print, text: &str) -> io::Result<()> {
+    rt.print(text)
 }
 
-fn write_number(number: u64) {
-    io::print_decimal(STDOUT_FILENO, number);
+fn write_number(rt: &impl Print, number: u64) -> io::Result<()> {
+    rt.print(number)
 }
 
-fn write_name_of_number(which: u64) {
+fn write_name_of_number(rt: &impl Print, which: u64) -> io::Result<()> {
     match which {
-        0 => write(b"number"),
-        1 => write(b"place"),
-        2 => write(b"total"),
-        _ => write(b"nulls"),
+        0 => write(rt, "number"),
+        1 => write(rt, "place"),
+        2 => write(rt, "total"),
+        _ => write(rt, "nulls"),
     }
 }
 
-fn write_name_of_output(which: u64) {
+fn write_name_of_output(rt: &impl Print, which: u64) -> io::Result<()> {
     match which {
-        1 => write(b"validity"),
-        2 => write(b"offsets"),
-        3 => write(b"data"),
-        _ => write(b"answer's tail"),
+        1 => write(rt, "validity"),
+        2 => write(rt, "offsets"),
+        3 => write(rt, "data"),
+        _ => write(rt, "answer's tail"),
     }
 }
 
-fn write_verdict(verdict: Verdict) {
+fn write_verdict(rt: &impl Print, verdict: Verdict) -> io::Result<()> {
     match verdict {
-        Verdict::Alike => write(b"alike"),
-        Verdict::Unreadable => write(b"not a case"),
-        Verdict::NullBytes => write(b"a null row of the published answer has bytes"),
+        Verdict::Alike => write(rt, "alike"),
+        Verdict::Unreadable => write(rt, "not a case"),
+        Verdict::NullBytes => write(rt, "a null row of the published answer has bytes"),
         Verdict::Number { which, got, want } => {
-            write_name_of_number(which);
-            write(b" ");
-            write_number(got);
-            write(b", and should be ");
-            write_number(want);
+            write_name_of_number(rt, which)?;
+            write(rt, " ")?;
+            write_number(rt, got)?;
+            write(rt, ", and should be ")?;
+            write_number(rt, want)
         }
         Verdict::Byte {
             which,
@@ -54,41 +54,47 @@ fn write_verdict(verdict: Verdict) {
             got,
             want,
         } => {
-            write_name_of_output(which);
-            write(b" has at ");
-            write_number(at);
-            write(b" the byte ");
-            write_number(got as u64);
-            write(b", and should have ");
-            write_number(want as u64);
+            write_name_of_output(rt, which)?;
+            write(rt, " has at ")?;
+            write_number(rt, at)?;
+            write(rt, " the byte ")?;
+            write_number(rt, got as u64)?;
+            write(rt, ", and should have ")?;
+            write_number(rt, want as u64)
         }
     }
 }
 
 // Counts a case that was run, and writes what differs if it is the first that does.
-pub fn tell(name: &[u8], line: u64, verdict: Verdict, tally: Tally) -> Tally {
+pub fn tell(
+    rt: &impl Print,
+    name: &str,
+    line: u64,
+    verdict: Verdict,
+    tally: Tally,
+) -> io::Result<Tally> {
     let cases = std::num::wrapping_add_u64(tally.cases, 1);
     let zeroed = tally.zeroed;
     if let Verdict::Alike = verdict {
-        return Tally {
+        return Ok(Tally {
             cases,
             differ: tally.differ,
             zeroed,
-        };
+        });
     }
     if tally.differ == 0 {
-        write(name);
-        write(b", line ");
-        write_number(line);
-        write(b": ");
-        write_verdict(verdict);
-        write(b"\n");
+        write(rt, name)?;
+        write(rt, ", line ")?;
+        write_number(rt, line)?;
+        write(rt, ": ")?;
+        write_verdict(rt, verdict)?;
+        write(rt, "\n")?;
     }
-    Tally {
+    Ok(Tally {
         cases,
         differ: std::num::wrapping_add_u64(tally.differ, 1),
         zeroed,
-    }
+    })
 }
 
 // Counts a published answer of some kind that has other bytes than zeros below a null.
@@ -106,37 +112,41 @@ pub fn count_zeroed(kind: u64, tally: Tally) -> Tally {
 }
 
 // Says how many published answers of each kind were compared with zeros in place of what was published below nulls.
-fn print_zeroed(name: &[u8], tally: Tally) {
+fn print_zeroed(rt: &impl Print, name: &str, tally: Tally) -> io::Result<()> {
     let zeroed = tally.zeroed;
-    write(name);
-    write(b": zeros in place of bytes below nulls, in answers of kinds 1, 2, 5 and 6: ");
-    write_number(zeroed[1]);
-    write(b", ");
-    write_number(zeroed[2]);
-    write(b", ");
-    write_number(zeroed[5]);
-    write(b", ");
-    write_number(zeroed[6]);
-    write(b"\n");
+    write(rt, name)?;
+    write(
+        rt,
+        ": zeros in place of bytes below nulls, in answers of kinds 1, 2, 5 and 6: ",
+    )?;
+    write_number(rt, zeroed[1])?;
+    write(rt, ", ")?;
+    write_number(rt, zeroed[2])?;
+    write(rt, ", ")?;
+    write_number(rt, zeroed[5])?;
+    write(rt, ", ")?;
+    write_number(rt, zeroed[6])?;
+    write(rt, "\n")
 }
 
-pub fn print_tally(name: &[u8], published: bool, tally: Tally) {
-    write(name);
-    write(b": ");
-    write_number(tally.cases);
+pub fn print_tally(rt: &impl Print, name: &str, published: bool, tally: Tally) -> io::Result<()> {
+    write(rt, name)?;
+    write(rt, ": ")?;
+    write_number(rt, tally.cases)?;
     if tally.differ == 0 {
-        write(b" cases, all alike\n");
+        write(rt, " cases, all alike\n")?;
     } else {
-        write(b" cases, of which ");
-        write_number(tally.differ);
-        write(b" differ\n");
+        write(rt, " cases, of which ")?;
+        write_number(rt, tally.differ)?;
+        write(rt, " differ\n")?;
     }
     if published {
-        print_zeroed(name, tally);
+        print_zeroed(rt, name, tally)?;
     }
+    Ok(())
 }
 
-pub fn not_read(name: &[u8]) {
-    write(name);
-    write(b": missing, empty or too long\n");
+pub fn not_read(rt: &impl Print, name: &str) -> io::Result<()> {
+    write(rt, name)?;
+    write(rt, ": missing, empty or too long\n")
 }
