@@ -1,0 +1,15 @@
+-- `word` is the number of the bytes from i up to n, of which there are at most 7.
+use Rattle.std.proofs.Common.{◌≡◌, ◌-◌, ◌≤◌}
+use Rattle.bits.specs.Bytes.{part}
+use Rattle.bits.specs.Numbers.{little_endian}
+use Rattle.rows.proofs.row.word_at.Given as goal
+
+abbrev pub invariant-loop-i : goal.invariant-loop-i
+invariant-loop-i l = record {
+  above : l.k ≤ l.i;
+  below : l.i ≤ l.n;
+  number : l.word ≡ little_endian (part l.i (l.n - l.i) l.valid);
+}
+
+abbrev pub decreases-loop-i : goal.decreases-loop-i
+decreases-loop-i l = l.i
