@@ -1,16 +1,9 @@
 -- Eight bits in their places are a byte, so each sum fits.
-use Rattle.std.proofs.Common.{ℕ, Bool, ◌≡◌, ◌+◌, ◌^◌, ◌≤◌, refl, sym, ap, ap₂, ◌∙◌, arith}
+use Rattle.std.proofs.Common.{ℕ, Bool, ◌≡◌, ◌+◌, ◌^◌, ◌≤◌, ap, ◌∙◌, arith}
 use lib.Pow.{pow_mono}
 use Rattle.bits.proofs.Bits.{bits_to, bits_to-step, bits_to-lt, bits_to-byte_of}
 use Rattle.bitmaps.specs.Reach.{byte_bit}
-use Rattle.bitmaps.proofs.Reading.{reaches-less}
 use Rattle.bitmaps.proofs.bit.take_byte.Goals as goal
-
-pub loop-t-init : goal.loop-t-init
-loop-t-init c = record { inside = omega arith; summed = refl }
-
-pub take_bit-byte-requires : goal.take_bit-byte-requires
-take_bit-byte-requires c = reaches-less c.requires (c.loop-t.t + 1) (omega arith) (omega (arith, c.requires.few))
 
 pub overflow_add-byte : goal.overflow_add-byte
 overflow_add-byte c =
@@ -19,15 +12,6 @@ overflow_add-byte c =
     let g : ℕ → Bool = λ i. byte_bit a.offset a.w a.index_data.now a.src.now a.valid a.p i in
     let few : 2 ^ (at.t + 1) ≤ 2 ^ 8 = pow_mono {j = 8} (omega (arith, c.requires.few)) in
     omega (arith, c.take_bit-byte.ensures, bits_to-step at.t g, bits_to-lt (at.t + 1) g)
-
-pub loop-t-preserved : goal.loop-t-preserved
-loop-t-preserved c =
-    let at = c.loop-t in
-    let a = c.args in
-    let g : ℕ → Bool = λ i. byte_bit a.offset a.w a.index_data.now a.src.now a.valid a.p i in record {
-      inside = omega (arith, c.requires.few);
-      summed = ap₂ ◌+◌ at.invariant.summed c.take_bit-byte.ensures ∙ sym (bits_to-step at.t g);
-    }
 
 pub returns : goal.returns
 returns c =

@@ -1,7 +1,7 @@
 -- A turn writes the next eight packed bytes, or the next one; after the last the packed bytes are all.
 use Rattle.std.proofs.Common.{◌≡◌, ◌<◌, length, arith}
 use Rattle.bits.specs.Bits.{bytes_for}
-use Rattle.bits.proofs.Packing.{bytes-none, packed-word, packed_byte, packed-again, packed-end}
+use Rattle.bits.proofs.Packing.{bytes-none, packed-word, packed_byte, packed-end}
 use Rattle.buffers.proofs.bit.pack_bits.Goals as goal
 
 pub loop-k-init : goal.loop-k-init
@@ -14,12 +14,6 @@ loop-k-preserved c =
       inside = omega (arith, t);
       packed = packed-word a.src.now a.out.now a.bit_offset a.n c.loop-k.k c.loop-k.invariant.packed c.word_from.result (omega (arith, t)) c.word_from.ensures c.write_u64.ensures;
     }
-
-pub loop-k-2-init : goal.loop-k-2-init
-loop-k-2-init c = record {
-  inside = omega arith;
-  packed = packed-again c.args.src.now c.args.out.now c.args.bit_offset c.args.n c.loop-k.k c.loop-k.invariant.packed;
-}
 
 pub loop-k-2-preserved : goal.loop-k-2-preserved
 loop-k-2-preserved c =

@@ -1,6 +1,6 @@
 -- A turn writes the next eight bytes of ones, or the lowest byte of the word; after the last the packed bytes are all.
 use Rattle.std.proofs.Common.{◌≡◌, true, suc, ◌&&◌, ◌+◌, ◌-◌, ◌<◌, nat_lt, length, ◌∙◌, arith}
-use Rattle.bits.proofs.Packing.{bytes-none, word_more, byte_more, bytes-again, bytes-over, bytes-end}
+use Rattle.bits.proofs.Packing.{bytes-none, word_more, byte_more, bytes-over, bytes-end}
 use Rattle.bits.proofs.Words.{packed-next}
 use Rattle.nulls.proofs.Ones.{ones-left}
 use Rattle.nulls.proofs.null.set_bits.Goals as goal
@@ -18,16 +18,6 @@ loop-k-preserved c =
 
 pub returns-then-bytes-k : goal.returns-then-bytes-k
 returns-then-bytes-k c = bytes-end (λ i. true) c.args.n c.args.out.now c.loop-k.k (omega arith) c.loop-k.invariant.packed
-
-pub loop-k-2-init : goal.loop-k-2-init
-loop-k-2-init c =
-    let at = c.loop-k in
-    let e : 8 + at.k - at.k ≡ 8 = omega arith in record {
-      begun = omega arith;
-      inside = omega arith;
-      packed = bytes-again (λ p. nat_lt p c.args.n && true) c.args.out.now at.k at.invariant.packed;
-      left = rw e (ones-left c.args.n at.k c.ones-word.result c.ones-word.ensures);
-    }
 
 pub loop-k-2-preserved : goal.loop-k-2-preserved
 loop-k-2-preserved c =
