@@ -1,7 +1,7 @@
 -- What a column and an index column that passed refusals 1 to 5 give to the routine of each kind, and what the routine then has written. Assumes nothing.
 use mathlib.Core.Path.{◌≡◌, refl, sym, ◌∙◌}
-use mathlib.Core.Bool.{Bool, false, cond, not, ◌&&◌, true≢false}
-use mathlib.Core.List.{List, [], ◌∷◌}
+use mathlib.Core.Bool.{false, cond, not, ◌&&◌, true≢false}
+use mathlib.Core.List.{List, []}
 use Prim.Native.Nat.{ℕ, ◌+◌, ◌*◌, ◌≤◌}
 use native.Mathlib.Nat.{mul-le-mul}
 use native.Mathlib.Omega.{arith}
@@ -25,11 +25,8 @@ use Rattle.gathers.specs.Ready.{InRange, Ready}
 use Rattle.gathers.specs.Buffers.{taken_bit, taken_bit_valid, Validates, taken_block, PicksValid}
 use Rattle.bitmaps.specs.Reach.{HoldsBits, MaskThere}
 use Rattle.fixed.specs.Blocked.{Blocked}
-use denote.Enum.Declared.{tag_of}
-use types.Run.{OneOf, miss}
 use Rattle.bits.proofs.Tests.{or-false}
 use Rattle.bits.proofs.Bytes.{block_inside}
-use Rattle.tables.specs.contracts.table.Kind.{the_type}
 use Rattle.tables.proofs.Bounds.{fits-at}
 use Rattle.tables.proofs.Facts.{Formed, formed, IndexFormed, index-formed}
 use Rattle.tables.proofs.Stages.{sized-row-fits, sized-bounds, well-formed-sized}
@@ -37,15 +34,16 @@ use Rattle.tables.proofs.Views.{kind_at-number, layout_at-kind}
 use Rattle.gathers.proofs.Buffers.{valid-below, validity-by-buffer, nulls-by-buffer, blocks-by-buffer, bits-by-buffer, picks_by, picks-in-range, picks-written, picks-mask, picks-long}
 use Rattle.gathers.proofs.Lengths.{blocks-length, bits-length, offsets-of-blocks, offsets-of-bits}
 
--- the kind that is left after the first five, by the number of its variant
-last-kind : (k : Kind) → (k ≡ Unknown → ⊥) → OneOf (5 ∷ 6 ∷ []) (tag_of the_type k) → k ≡ FixedSizeBinary
-last-kind Primitive u t = absurd (miss (5 ∷ 6 ∷ []) 0 tt t)
-last-kind Boolean u t = absurd (miss (5 ∷ 6 ∷ []) 1 tt t)
-last-kind VariableBytes u t = absurd (miss (5 ∷ 6 ∷ []) 2 tt t)
-last-kind ListKind u t = absurd (miss (5 ∷ 6 ∷ []) 3 tt t)
-last-kind FixedSizeList u t = absurd (miss (5 ∷ 6 ∷ []) 4 tt t)
-last-kind FixedSizeBinary u t = refl
-last-kind Unknown u t = absurd (u refl)
+-- the kind that is left after the first five, where it is known
+last-kind : (k : Kind) → (k ≡ Unknown → ⊥) → (k ≡ Primitive → ⊥) → (k ≡ Boolean → ⊥) → (k ≡ VariableBytes → ⊥) → (k ≡ ListKind → ⊥)
+    → (k ≡ FixedSizeList → ⊥) → k ≡ FixedSizeBinary
+last-kind Primitive u p b v l f = absurd (p refl)
+last-kind Boolean u p b v l f = absurd (b refl)
+last-kind VariableBytes u p b v l f = absurd (v refl)
+last-kind ListKind u p b v l f = absurd (l refl)
+last-kind FixedSizeList u p b v l f = absurd (f refl)
+last-kind FixedSizeBinary u p b v l f = refl
+last-kind Unknown u p b v l f = absurd (u refl)
 
 -- the kind and the layout, as the code finds them
 module _ (c : Column) where
@@ -58,8 +56,9 @@ module _ (c : Column) where
   known : WellFormed c → kind_at c ≡ Unknown → ⊥
   known w e = true≢false (rw e at (formed c w).good_kind)
 
-  pub sixth : WellFormed c → (k : Kind) → k ≡ kind_of c.table.kind → OneOf (5 ∷ 6 ∷ []) (tag_of the_type k) → kind_at c ≡ FixedSizeBinary
-  sixth w k e t = kind-told e (last-kind k (λ f. known w (kind-told e f)) t)
+  pub sixth : WellFormed c → {k : Kind} → k ≡ kind_of c.table.kind → (k ≡ Primitive → ⊥) → (k ≡ Boolean → ⊥) → (k ≡ VariableBytes → ⊥)
+      → (k ≡ ListKind → ⊥) → (k ≡ FixedSizeList → ⊥) → kind_at c ≡ FixedSizeBinary
+  sixth w {k} e p b v l f = kind-told e (last-kind k (λ u. known w (kind-told e u)) p b v l f)
 
 module _ (c : Column) (x : IndexColumn) (r : Ready c x) where
   pub ready-row-fits : {k : Kind} → k ≡ kind_of c.table.kind → RowFits k c.table

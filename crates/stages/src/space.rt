@@ -39,6 +39,7 @@ pub fn needed_lengths(table: Table, count: u64, data: u64) -> Lengths
 }
 
 // The first output that is shorter than it needs to be.
+#[tactic(auto, unfolding(crate::specs::Space::lengths_refusal))]
 pub fn check_space(needed: Lengths, lent: Lengths) -> Checked
     ensures { checked_numbers result ≡ lengths_refusal needed lent }
 {
