@@ -71,7 +71,7 @@ pub fn check(
     ensures { checked_numbers result ≡ first_of (arrays_refusals
         (batch_at columns descriptions.entry body.entry)
         (index_column_at indices index_data.entry index_validity.entry)
-        (output_at out_validity.entry out_offsets.entry out_data.entry)) }
+        (output_at out_validity.old out_offsets.old out_data.old)) }
 {
     let batched = check_batch(columns, descriptions);
     let Checked::Fit = batched else {

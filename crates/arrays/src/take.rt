@@ -27,8 +27,8 @@ pub fn take_arrays(
     ensures { GathersArrays gather_arrays
         (batch_at columns descriptions.entry body.entry)
         (index_column_at indices index_data.entry index_validity.entry)
-        (output_at out_validity.entry out_offsets.entry out_data.entry)
-        (outcome (answered_numbers result) (output_at out_validity.exit out_offsets.exit out_data.exit)) }
+        (output_at out_validity.old out_offsets.old out_data.old)
+        (outcome (answered_numbers result) (output_at out_validity.new out_offsets.new out_data.new)) }
 {
     let checked = check(
         columns,

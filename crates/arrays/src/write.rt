@@ -28,12 +28,12 @@ pub fn write(
     out_offsets: &mut [u8],
     out_data: &mut [u8],
 ) -> Written
-    requires { Passed (batch_at columns descriptions body) (index_column_at indices index_data index_validity) (output_at out_validity out_offsets out_data) }
+    requires { Passed (batch_at columns descriptions body) (index_column_at indices index_data index_validity) (output_at out_validity.old out_offsets.old out_data.old) }
     ensures told { result ≡ written_of columns
         (taken_from (batch_at columns descriptions.entry body.entry) (index_column_at indices index_data.entry index_validity.entry)) }
-    ensures stored { output_at out_validity.exit out_offsets.exit out_data.exit ≡ store_joined columns
+    ensures stored { output_at out_validity.new out_offsets.new out_data.new ≡ store_joined columns
         (taken_from (batch_at columns descriptions.entry body.entry) (index_column_at indices index_data.entry index_validity.entry))
-        (output_at out_validity.entry out_offsets.entry out_data.entry) }
+        (output_at out_validity.old out_offsets.old out_data.old) }
 {
     let mut validity: usize = 0;
     let mut offsets: usize = 0;

@@ -135,14 +135,14 @@ pub fn take_column(
     requires ready { Ready (column_at table «data» offsets validity) (index_column_at indices index_data index_validity) }
     requires no_overflow { NoOverflow (column_at table «data» offsets validity) (index_column_at indices index_data index_validity) }
     requires has_room_for { HasRoomFor (taken (column_at table «data» offsets validity) (index_column_at indices index_data index_validity))
-        (output_at out_validity out_offsets out_data) }
+        (output_at out_validity.old out_offsets.old out_data.old) }
     ensures told { result ≡ taken_of (taken
         (column_at table «data».entry offsets.entry validity.entry)
         (index_column_at indices index_data.entry index_validity.entry)) }
-    ensures stored { output_at out_validity.exit out_offsets.exit out_data.exit ≡ store (taken
+    ensures stored { output_at out_validity.new out_offsets.new out_data.new ≡ store (taken
         (column_at table «data».entry offsets.entry validity.entry)
         (index_column_at indices index_data.entry index_validity.entry))
-        (output_at out_validity.entry out_offsets.entry out_data.entry) }
+        (output_at out_validity.old out_offsets.old out_data.old) }
 {
     let nulls = take_nulls(
         validity,

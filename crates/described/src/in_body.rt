@@ -110,11 +110,11 @@ pub fn take_described(
 ) -> Taken
     requires ready { Ready (column_in body.now d) (index_column_at indices index_data index_validity) }
     requires no_overflow { NoOverflow (column_in body.now d) (index_column_at indices index_data index_validity) }
-    requires has_room_for { HasRoomFor (taken (column_in body.now d) (index_column_at indices index_data index_validity)) (output_at out_validity out_offsets out_data) }
+    requires has_room_for { HasRoomFor (taken (column_in body.now d) (index_column_at indices index_data index_validity)) (output_at out_validity.old out_offsets.old out_data.old) }
     ensures told { result ≡ taken_of (taken (column_in body.now d) (index_column_at indices index_data.entry index_validity.entry)) }
-    ensures stored { output_at out_validity.exit out_offsets.exit out_data.exit
+    ensures stored { output_at out_validity.new out_offsets.new out_data.new
         ≡ store (taken (column_in body.now d) (index_column_at indices index_data.entry index_validity.entry))
-        (output_at out_validity.entry out_offsets.entry out_data.entry) }
+        (output_at out_validity.old out_offsets.old out_data.old) }
 {
     let table = d.table;
     let uses = uses_of(kind_of(table.kind));

@@ -26,8 +26,8 @@ pub extern "C" fn hoglidra_take_arrays(
     ensures { GathersArrays (exported gather_arrays answer.old)
         (batch_at columns descriptions.entry body.entry)
         (index_column_at (index_description index_width count index_validity_bit) index_data.entry index_validity.entry)
-        (output_at out_validity.entry out_offsets.entry out_data.entry)
-        (left result answer.new (output_at out_validity.exit out_offsets.exit out_data.exit)) }
+        (output_at out_validity.old out_offsets.old out_data.old)
+        (left result answer.new (output_at out_validity.new out_offsets.new out_data.new)) }
 {
     hoglidra_arrays::export::hoglidra_take_arrays(
         columns,

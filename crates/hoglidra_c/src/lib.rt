@@ -33,8 +33,8 @@ pub extern "C" fn hoglidra_take(
     ensures { Gathers (exported gather answer.old)
         (column_at (description kind width size offset_width rows data_bit validity_bit) «data».entry offsets.entry validity.entry)
         (index_column_at (index_description index_width count index_validity_bit) index_data.entry index_validity.entry)
-        (output_at out_validity.entry out_offsets.entry out_data.entry)
-        (left result answer.new (output_at out_validity.exit out_offsets.exit out_data.exit)) }
+        (output_at out_validity.old out_offsets.old out_data.old)
+        (left result answer.new (output_at out_validity.new out_offsets.new out_data.new)) }
 {
     hoglidra::export::hoglidra_take(
         kind,
