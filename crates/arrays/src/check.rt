@@ -71,7 +71,7 @@ pub fn check(
     ensures { checked_numbers result ≡ first_of (arrays_refusals
         (batch_at columns descriptions.entry body.entry)
         (index_column_at indices index_data.entry index_validity.entry)
-        (output_at out_validity.old out_offsets.old out_data.old)) }
+        (output_at out_validity.now out_offsets.now out_data.now)) }
 {
     let batched = check_batch(columns, descriptions);
     let Checked::Fit = batched else {

@@ -29,7 +29,7 @@ pub fn check(
     ensures { checked_numbers result ≡ first_of (refusals
         (column_at table «data».entry offsets.entry validity.entry)
         (index_column_at indices index_data.entry index_validity.entry)
-        (output_at out_validity.old out_offsets.old out_data.old)) }
+        (output_at out_validity.now out_offsets.now out_data.now)) }
 {
     let lengths = Lengths {
         data: data.len() as u64,
