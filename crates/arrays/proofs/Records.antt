@@ -14,6 +14,10 @@ use Rattle.arrays.specs.Told.{records_differ}
 use Rattle.bits.proofs.Sequences.{any-cong}
 use Rattle.tables.proofs.Bodies.{column-table}
 
+-- record i states another number of rows
+abbrev pub differs : List ℕ → ℕ → ℕ → Bool
+differs s rows i = not (eqb (described_at s i).table.rows rows)
+
 module _ (n : ℕ) (s body : List ℕ) where
   differ-by-records : rows_differ (batch_in n s body) ≡ records_differ n s
   differ-by-records =
