@@ -15,8 +15,8 @@ const MAX_COLUMNS: u64 = 32;
 const RECORD_BYTES: u64 = 104;
 
 fn rows_differ(columns: usize, descriptions: &[u8]) -> bool
-    requires columns_nonzero { 0 < columns }
-    requires record_bytes_in_bounds { columns * record_bytes ≤ length descriptions.now }
+    requires some_columns { 0 < columns }
+    requires records_there { columns * record_bytes ≤ length descriptions.now }
     ensures { result ≡ records_differ columns descriptions.now }
 {
     let rows = rows_at(descriptions, 0);

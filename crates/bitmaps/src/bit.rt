@@ -55,8 +55,8 @@ fn take_byte(
 
 // The validity of the n indices from index p on, a bit each. Where none is lent, each is valid.
 fn valid_byte(index_validity: &[u8], bit_offset: usize, p: usize, n: usize) -> u8
-    requires n_nonzero { (0 < n) × (n ≤ 8) }
-    requires n_bound { is_absent index_validity.now ≡ false → (bit_offset + p + n ≤ 8 * length index_validity.now) × (bit_offset + p < 2 ^ 64) }
+    requires few { (0 < n) × (n ≤ 8) }
+    requires there { is_absent index_validity.now ≡ false → (bit_offset + p + n ≤ 8 * length index_validity.now) × (bit_offset + p < 2 ^ 64) }
     ensures { (t : ℕ) → t < n → bit_in result t ≡ valid_at index_validity.now bit_offset (p + t) }
 {
     if index_validity.len() == 0 {
@@ -78,7 +78,7 @@ fn take_reached(
 )
     requires reached { Reached bit_offset src.now (index_column_at indices index_data index_validity) }
     requires mask_there { MaskThere indices.count mask.now }
-    requires count_in_bounds { bytes_for indices.count ≤ length out.old }
+    requires room { bytes_for indices.count ≤ length out.old }
     ensures { out.new ≡ overwrite (taken_bits src.now bit_offset
         (index_column_at indices index_data.entry index_validity.entry) mask.now) out.old }
 {
@@ -116,7 +116,7 @@ pub fn take_bits(
     requires in_range { InRange rows (index_column_at indices index_data index_validity) }
     requires holds_bits { HoldsBits bit_offset rows src.now }
     requires mask_there { MaskThere indices.count mask.now }
-    requires count_in_bounds { bytes_for indices.count ≤ length out.old }
+    requires room { bytes_for indices.count ≤ length out.old }
     ensures { out.new ≡ overwrite (taken_bits src.now bit_offset
         (index_column_at indices index_data.entry index_validity.entry) mask.now) out.old }
 {

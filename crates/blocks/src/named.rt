@@ -19,7 +19,7 @@ pub fn take_all(
     out_data: &mut [u8],
 )
     requires named { Named size width count index_data.now [] «data».now out_data.old }
-    requires size_value { (size ≡ n) × (width ≡ w) }
+    requires literals { (size ≡ n) × (width ≡ w) }
     ensures { out_data.new ≡ overwrite (named_blocks size width count index_data.now [] «data».now) out_data.old }
 {
     let mut j = 0;

@@ -23,8 +23,8 @@ fn take_byte<'a>(
     out_data: &mut [u8],
 )
     requires named { Named n w (8 * k + m) index_data.now valid.now «data».now out_data.old }
-    requires valid_value { (is_absent valid.now ≡ false) × (0 < m) × (m ≤ 8) × (8 * k + m < 2 ^ 64) }
-    requires zeros_value { zeros.now ≡ replicate 32 0 }
+    requires byte_there { (is_absent valid.now ≡ false) × (0 < m) × (m ≤ 8) × (8 * k + m < 2 ^ 64) }
+    requires zeros { zeros.now ≡ replicate 32 0 }
     ensures { out_data.new ≡ overwrite_at (8 * k * n)
         (concat m (λ t. named_block n w index_data.now valid.now «data».now (8 * k + t))) out_data.old }
 {
@@ -53,8 +53,8 @@ pub fn take_valid<'a>(
     out_data: &mut [u8],
 )
     requires named { Named size width count index_data.now valid.now «data».now out_data.old }
-    requires size_value { (size ≡ n) × (width ≡ w) }
-    requires valid_value { (is_absent valid.now ≡ false) × (zeros.now ≡ replicate 32 0) }
+    requires literals { (size ≡ n) × (width ≡ w) }
+    requires with_nulls { (is_absent valid.now ≡ false) × (zeros.now ≡ replicate 32 0) }
     ensures { out_data.new ≡ overwrite (named_blocks size width count index_data.now valid.now «data».now) out_data.old }
 {
     let whole = count / 8;

@@ -45,8 +45,8 @@ fn write_number(buf: &mut [u8], p: usize, w: usize, v: u64)
 
 // The n bytes at p, from w to 2 w of them: the number at their front and the one at their end, which may overlap. Both are read before either is written.
 pub fn copy_ends(src: &[u8], dst: &mut [u8], p: usize, n: usize, w: usize)
-    requires w_value { (is_number_width w ≡ true) × (w ≤ n) × (n ≤ w + w) }
-    requires n_in_bounds { (p + n ≤ length src.now) × (p + n ≤ length dst.old) }
+    requires width { (is_number_width w ≡ true) × (w ≤ n) × (n ≤ w + w) }
+    requires there { (p + n ≤ length src.now) × (p + n ≤ length dst.old) }
     ensures { dst.new ≡ overwrite_at p (part p n src.now) dst.old }
 {
     let q = p + (n - w);

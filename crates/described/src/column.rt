@@ -57,8 +57,8 @@ fn check_range(
     index_data: &[u8],
     index_validity: &[u8],
 ) -> Checked
-    requires index_validity_value { passes (index_refusal (index_column_at indices index_data index_validity)) ≡ true }
-    requires index_validity_value_2 { first ≡ false → passes (range_refusal rows (index_column_at indices index_data index_validity)) ≡ true }
+    requires index_passes { passes (index_refusal (index_column_at indices index_data index_validity)) ≡ true }
+    requires range_known { first ≡ false → passes (range_refusal rows (index_column_at indices index_data index_validity)) ≡ true }
     ensures { checked_numbers result ≡ range_refusal rows (index_column_at indices index_data.entry index_validity.entry) }
 {
     if !first {

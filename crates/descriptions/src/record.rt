@@ -8,8 +8,8 @@ use tables::table::{Description, Extent, Table};
 const RECORD_BYTES: usize = 104;
 
 fn word(descriptions: &[u8], i: usize, j: usize) -> u64
-    requires record_bytes_in_bounds { (i + 1) * record_bytes ≤ length descriptions.now }
-    requires j_lt_record_words { j < record_words }
+    requires record_there { (i + 1) * record_bytes ≤ length descriptions.now }
+    requires word_of_record { j < record_words }
     ensures { result ≡ word_at descriptions.now i j }
 {
     read_u64(descriptions, i * RECORD_BYTES + j * 8)
@@ -32,8 +32,8 @@ fn table_at(descriptions: &[u8], i: usize) -> Table
 
 // The extent whose start is word j.
 fn extent_at(descriptions: &[u8], i: usize, j: usize) -> Extent
-    requires record_bytes_in_bounds { (i + 1) * record_bytes ≤ length descriptions.now }
-    requires j_bound { j + 1 < record_words }
+    requires record_there { (i + 1) * record_bytes ≤ length descriptions.now }
+    requires word_of_record { j + 1 < record_words }
     ensures { result ≡ extent (word_at descriptions.now i j) (word_at descriptions.now i (j + 1)) }
 {
     let start = word(descriptions, i, j);

@@ -24,7 +24,7 @@ pub fn take_native<'a>(
     out_data: &mut [u8],
 )
     requires blocked { Blocked width (index_column_at indices index_data valid) «data».now out_data.old }
-    requires zeros_value { zeros.now ≡ replicate 32 0 }
+    requires zeros { zeros.now ≡ replicate 32 0 }
     ensures { out_data.new ≡ overwrite (taken_blocks width «data».now (index_column_at indices index_data.entry valid.entry)) out_data.old }
 {
     let count = indices.count as usize;
@@ -55,7 +55,7 @@ pub fn take_fixed_size_binary<'a>(
     out_data: &mut [u8],
 )
     requires blocked { Blocked size (index_column_at indices index_data valid) «data».now out_data.old }
-    requires zeros_value { zeros.now ≡ replicate 32 0 }
+    requires zeros { zeros.now ≡ replicate 32 0 }
     ensures { out_data.new ≡ overwrite (taken_blocks size «data».now (index_column_at indices index_data.entry valid.entry)) out_data.old }
 {
     take_native(data, size, indices, index_data, valid, zeros, out_data);
@@ -73,7 +73,7 @@ pub fn take_fixed_size_list_primitive<'a>(
     out_data: &mut [u8],
 )
     requires blocked { Blocked (size * width) (index_column_at indices index_data valid) «data».now out_data.old }
-    requires zeros_value { zeros.now ≡ replicate 32 0 }
+    requires zeros { zeros.now ≡ replicate 32 0 }
     ensures { out_data.new ≡ overwrite (taken_blocks (size * width) «data».now (index_column_at indices index_data.entry valid.entry)) out_data.old }
 {
     take_native(
@@ -101,7 +101,7 @@ pub fn take_boolean(
     requires in_range { InRange rows (index_column_at indices index_data index_validity) }
     requires holds_bits { HoldsBits bit_offset rows «data».now }
     requires mask_there { MaskThere indices.count valid.now }
-    requires count_in_bounds { bytes_for indices.count ≤ length out_data.old }
+    requires room { bytes_for indices.count ≤ length out_data.old }
     ensures { out_data.new ≡ overwrite (taken_bits «data».now bit_offset
         (index_column_at indices index_data.entry index_validity.entry) valid.now) out_data.old }
 {

@@ -1,5 +1,5 @@
-// What the printer's C firmware calls to gather a column: numbers and byte slices, each slice a pointer and a length. The number is returned, and the four
-// numbers are written into the lent answer, refusals included; an answer slice of fewer than 32 bytes gets 7 before every other test, and nothing is written.
+// The gather of a column as the printer's C firmware calls it: numbers and byte slices. The number is returned, and the four numbers are written into the
+// lent answer, refusals included; an answer slice of fewer than 32 bytes gets 7 before every other test, and nothing is written.
 ghost use Rattle.tables.specs.Columns.{column_at, index_column_at, description, index_description};
 ghost use Rattle.gathers.specs.Stored.{output_at};
 ghost use Rattle.gathers.specs.Gather.{gather};

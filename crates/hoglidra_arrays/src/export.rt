@@ -1,4 +1,4 @@
-// What C calls to gather several columns at once: their records and the one slice that holds their buffers, else as for one column.
+// The gather of several columns at once as C calls it: their records and the one slice that holds their buffers, else as for one column.
 ghost use Rattle.tables.specs.Columns.{index_column_at, index_description};
 ghost use Rattle.gathers.specs.Stored.{output_at};
 ghost use Rattle.batches.specs.Batch.{batch_at, gather_arrays};

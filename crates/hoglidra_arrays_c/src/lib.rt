@@ -1,5 +1,5 @@
-// What C links to gather several columns (layer 6): the symbol `hoglidra_take_arrays`, whose promise is that of `hoglidra_arrays::export::hoglidra_take_arrays`, which it calls. A static library is
-// no library that other crates can use, so it is a crate of its own.
+// What C links to gather several columns (layer 6): the symbol `hoglidra_take_arrays`, which promises what `hoglidra_arrays::export::hoglidra_take_arrays`
+// does, and calls it.
 #![tactic(auto)]
 
 ghost use Rattle.tables.specs.Columns.{index_column_at, index_description};

@@ -62,9 +62,9 @@ fn masked_row(
 
 // How many entries it has: none where it is null, since it then ends where it starts.
 fn entries_of(offsets: &[u8], ow: usize, taken: Taken) -> u64
-    requires ow_value { is_number_width ow ≡ true }
-    requires valid_bound { (taken.row + taken.valid < 2 ^ 60) × (taken.row * ow + ow ≤ length offsets.now) × ((taken.row + taken.valid) * ow + ow ≤ length offsets.now) }
-    requires row_bound { number_at ow offsets.now taken.row ≤ number_at ow offsets.now (taken.row + taken.valid) }
+    requires offset_width { is_number_width ow ≡ true }
+    requires row_there { (taken.row + taken.valid < 2 ^ 60) × (taken.row * ow + ow ≤ length offsets.now) × ((taken.row + taken.valid) * ow + ow ≤ length offsets.now) }
+    requires rising { number_at ow offsets.now taken.row ≤ number_at ow offsets.now (taken.row + taken.valid) }
     ensures { result ≡ number_at ow offsets.now (taken.row + taken.valid) - number_at ow offsets.now taken.row }
 {
     let start = number_at(offsets, ow, taken.row);
@@ -101,7 +101,7 @@ pub fn shown_entries(
     out_validity: &[u8],
     j: usize,
 ) -> u64
-    requires w_value { (is_number_width w ≡ true) × (j * w + w ≤ length index_data.now) × (j < 8 * length out_validity.now) }
+    requires width { (is_number_width w ≡ true) × (j * w + w ≤ length index_data.now) × (j < 8 * length out_validity.now) }
     requires entries_there { EntriesThere ow offsets.now (bit_at out_validity.now j) (number_at w index_data.now j) }
     ensures { result ≡ shown_entries ow offsets.now w index_data.now out_validity.now j }
 {

@@ -121,7 +121,7 @@ pub fn put_totals(
     out_offsets: &mut [u8],
 )
     requires shown_there { ShownThere ow offsets.now w index_data.now out_validity.now count }
-    requires ow_in_bounds { suc count * ow ≤ length out_offsets.old }
+    requires room { suc count * ow ≤ length out_offsets.old }
     ensures { out_offsets.new
         ≡ overwrite (total_bytes ow (shown_entries ow offsets.now w index_data.now out_validity.now) (suc count)) out_offsets.old }
 {

@@ -61,8 +61,8 @@ fn take_validity(
 )
     requires in_range { InRange rows (index_column_at indices index_data index_validity) }
     requires holds_bits { is_absent validity.now ≡ false → HoldsBits bit_offset rows validity.now }
-    requires index_validity_value { (is_absent validity.now && is_absent index_validity.now) ≡ false }
-    requires count_in_bounds { bytes_for indices.count ≤ length out_validity.old }
+    requires some_validity { (is_absent validity.now && is_absent index_validity.now) ≡ false }
+    requires room { bytes_for indices.count ≤ length out_validity.old }
     ensures { out_validity.new ≡ overwrite (taken_validity validity.now bit_offset
         (index_column_at indices index_data.entry index_validity.entry)) out_validity.old }
 {
@@ -99,9 +99,9 @@ pub fn take_nulls(
 ) -> u64
     requires in_range { InRange rows (index_column_at indices index_data index_validity) }
     requires holds_bits { is_absent validity.now ≡ false → HoldsBits bit_offset rows validity.now }
-    requires count_in_bounds { bytes_for indices.count ≤ length out_validity.old }
-    ensures value { result ≡ taken_nulls validity.now bit_offset (index_column_at indices index_data.entry index_validity.entry) }
-    ensures out_validity_after { out_validity.new ≡ overwrite (taken_validity validity.now bit_offset
+    requires room { bytes_for indices.count ≤ length out_validity.old }
+    ensures nulls { result ≡ taken_nulls validity.now bit_offset (index_column_at indices index_data.entry index_validity.entry) }
+    ensures validity_stored { out_validity.new ≡ overwrite (taken_validity validity.now bit_offset
         (index_column_at indices index_data.entry index_validity.entry)) out_validity.old }
 {
     let count = indices.count as usize;

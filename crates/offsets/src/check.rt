@@ -15,8 +15,8 @@ use tables::table::{Layout, Table};
 
 // Offset i. The two widths, and not the four of `number_at`: where numbers are read byte by byte the compiler puts only this in line.
 fn offset_at(offsets: &[u8], w: usize, i: usize) -> u64
-    requires w_value { is_offset_width w ≡ true }
-    requires w_in_bounds { i * w + w ≤ length offsets.now }
+    requires width { is_offset_width w ≡ true }
+    requires there { i * w + w ≤ length offsets.now }
     ensures { result ≡ number_at w offsets.now i }
 {
     if w == 4 {
@@ -28,7 +28,7 @@ fn offset_at(offsets: &[u8], w: usize, i: usize) -> u64
 // Some of the eight offsets after offset i is below the one before.
 fn falls_in_eight(offsets: &[u8], w: usize, rows: usize, i: usize) -> bool
     requires offsets { Offsets w rows offsets.now }
-    requires i_bound { i + 8 ≤ rows }
+    requires eight_left { i + 8 ≤ rows }
     ensures { result ≡ any 8 (λ k. falls (number_at w offsets.now) (i + k)) }
 {
     let a = offset_at(offsets, w, i);
@@ -79,7 +79,7 @@ fn falls_somewhere(offsets: &[u8], w: usize, rows: usize) -> bool
 // The place of the first bad offset, by looking at each; `rows` + 1 where all are good.
 fn find_bad(offsets: &[u8], w: usize, rows: usize, most: u64) -> u64
     requires offsets { Offsets w rows offsets.now }
-    requires most_le_max_bytes { most ≤ max_bytes }
+    requires small { most ≤ max_bytes }
     ensures { result ≡ first (suc rows) (is_bad w (number_at w offsets.now) most) }
 {
     let mut before: u64 = 0;
@@ -98,7 +98,7 @@ fn find_bad(offsets: &[u8], w: usize, rows: usize, most: u64) -> u64
 // The same, by the pass that finds all offsets good.
 fn bad_offset(offsets: &[u8], w: usize, rows: usize, most: u64) -> u64
     requires offsets { Offsets w rows offsets.now }
-    requires most_le_max_bytes { most ≤ max_bytes }
+    requires small { most ≤ max_bytes }
     ensures { result ≡ first (suc rows) (is_bad w (number_at w offsets.now) most) }
 {
     if falls_somewhere(offsets, w, rows) | (number_at(offsets, w, rows) > most) {

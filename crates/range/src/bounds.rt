@@ -46,7 +46,7 @@ fn scan_from(
     from: usize,
 ) -> Scanned
     requires scannable { Scannable rows (index_column_at indices index_data index_validity) from }
-    requires width_value { indices.width ≡ w }
+    requires width { indices.width ≡ w }
     ensures { ScannedOf rows (index_column_at indices index_data.entry index_validity.entry) result }
 {
     let mut checked = Checked::Fit;
@@ -75,8 +75,8 @@ fn check_bounds_at(
     index_data: &[u8],
     index_validity: &[u8],
 ) -> Scanned
-    requires index_validity_value { passes (index_refusal (index_column_at indices index_data index_validity)) ≡ true }
-    requires width_value { indices.width ≡ w }
+    requires index_passes { passes (index_refusal (index_column_at indices index_data index_validity)) ≡ true }
+    requires width { indices.width ≡ w }
     ensures { ScannedOf rows (index_column_at indices index_data.entry index_validity.entry) result }
 {
     if is_too_narrow(w, rows) {
@@ -97,8 +97,8 @@ pub fn check_bounds(
     index_validity: &[u8],
 ) -> Scanned
     requires { passes (index_refusal (index_column_at indices index_data index_validity)) ≡ true }
-    ensures checked_value { checked_numbers result.checked ≡ range_refusal rows (index_column_at indices index_data.entry index_validity.entry) }
-    ensures looked_value { result.looked ≡ looked_at rows (index_column_at indices index_data.entry index_validity.entry) }
+    ensures checked { checked_numbers result.checked ≡ range_refusal rows (index_column_at indices index_data.entry index_validity.entry) }
+    ensures looked { result.looked ≡ looked_at rows (index_column_at indices index_data.entry index_validity.entry) }
 {
     let width = indices.width;
     match width {

@@ -9,8 +9,8 @@ use bits::number::number_at;
 
 // Whether x is above last, of numbers of w bytes: compared at that width, so that a loop over many compares as many at once.
 fn is_above(last: u64, x: u64, w: usize) -> bool
-    requires w_value { is_number_width w ≡ true }
-    requires last_bound { (last < 256 ^ w) × (x < 256 ^ w) }
+    requires width { is_number_width w ≡ true }
+    requires fits { (last < 256 ^ w) × (x < 256 ^ w) }
     ensures { result ≡ nat_lt last x }
 {
     if w == 4 {
@@ -27,8 +27,8 @@ fn is_above(last: u64, x: u64, w: usize) -> bool
 
 // Whether some of the first n numbers is above last.
 fn some_above(last: u64, w: usize, n: usize, numbers: &[u8]) -> bool
-    requires w_value { is_number_width w ≡ true }
-    requires last_bound { (last < 256 ^ w) × (n * w ≤ length numbers.now) }
+    requires width { is_number_width w ≡ true }
+    requires fits { (last < 256 ^ w) × (n * w ≤ length numbers.now) }
     ensures { result ≡ any n (λ k. nat_lt last (number_at w numbers.now k)) }
 {
     let mut above = false;
@@ -50,8 +50,8 @@ fn block_len(left: usize) -> usize
 // Where the block of the first number above last starts; the count where none is. A block is a part of the buffer, so that the loop over it counts from 0
 // up to at most 512: from one place to another takes more instructions on a core of 32 bits.
 fn block_above(last: u64, w: usize, count: usize, index_data: &[u8]) -> usize
-    requires w_value { is_number_width w ≡ true }
-    requires last_bound { (last < 256 ^ w) × (count * w ≤ length index_data.now) }
+    requires width { is_number_width w ≡ true }
+    requires fits { (last < 256 ^ w) × (count * w ≤ length index_data.now) }
     ensures { result ≡ block_of count (first count (λ j. nat_lt last (number_at w index_data.now j))) }
 {
     let mut from = 0;
@@ -67,8 +67,8 @@ fn block_above(last: u64, w: usize, count: usize, index_data: &[u8]) -> usize
 
 // Where the block of the first number starts that is that of none of so many rows, which numbers of that width can hold; the count where there is none.
 pub fn block_outside(rows: u64, w: usize, count: usize, index_data: &[u8]) -> usize
-    requires w_value { is_number_width w ≡ true }
-    requires rows_bound { (rows < 256 ^ w) × (count * w ≤ length index_data.now) }
+    requires width { is_number_width w ≡ true }
+    requires fits { (rows < 256 ^ w) × (count * w ≤ length index_data.now) }
     ensures { result ≡ block_of count (first count (λ j. nat_le rows (number_at w index_data.now j))) }
 {
     if rows == 0 {

@@ -19,7 +19,7 @@ pub enum Found {
 }
 
 fn find_row(table: Table, data: &[u8], offsets: &[u8], validity: &[u8], row: u64) -> Found
-    ensures value { result ≡ row_found (column_at table «data».entry offsets.entry validity.entry) row }
+    ensures found { result ≡ row_found (column_at table «data».entry offsets.entry validity.entry) row }
     ensures inside { Inside result «data».now }
 {
     let checked = check_table(table, data, offsets, validity);

@@ -19,8 +19,8 @@ fn copy_masked(src: &[u8], n: usize, dst: &mut [u8])
 
 // The first n bytes of src into the front of dst. No byte of src past the first `readable` is read, and none of dst past the first `writable` is written.
 pub fn copy_front(src: &[u8], n: usize, readable: usize, dst: &mut [u8], writable: usize)
-    requires n_le_readable { (n ≤ readable) × (readable ≤ length src.now) }
-    requires n_le_writable { (n ≤ writable) × (writable ≤ length dst.old) }
+    requires readable { (n ≤ readable) × (readable ≤ length src.now) }
+    requires writable { (n ≤ writable) × (writable ≤ length dst.old) }
     ensures { dst.new ≡ overwrite (front_bytes n readable writable src.now) dst.old }
 {
     let front = &src[0..readable];

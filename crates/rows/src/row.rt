@@ -25,7 +25,7 @@ fn copy_row(
     j: usize,
 )
     requires row_there { RowThere (sources_at unit ow w «data» offsets index_data out_offsets) needed used j }
-    requires used_in_bounds { used ≤ length out_data.old }
+    requires room { used ≤ length out_data.old }
     ensures { out_data.new
         ≡ written_row (sources_at unit ow w «data».entry offsets.entry index_data.entry out_offsets.entry) needed used j out_data.old }
 {
@@ -76,7 +76,7 @@ fn copy_word(
     k: usize,
 )
     requires copy_ready { CopyReady (sources_at unit ow w «data» offsets index_data out_offsets) out_validity.now needed used count }
-    requires used_in_bounds { (used ≤ length out_data.old) × (k < bytes_for count) }
+    requires word_there { (used ≤ length out_data.old) × (k < bytes_for count) }
     requires rows_copied { RowsCopied (sources_at unit ow w «data» offsets index_data out_offsets) used out_data.old out_data.old (8 * k) }
     ensures { RowsCopied (sources_at unit ow w «data».entry offsets.entry index_data.entry out_offsets.entry) used
         out_data.old out_data.new (rows_to count (k + 8)) }
@@ -120,7 +120,7 @@ pub fn copy_rows(
 )
     requires copy_ready { CopyReady (sources_at unit ow w «data» offsets index_data out_offsets) out_validity.now needed
         (row_at (sources_at unit ow w «data» offsets index_data out_offsets) count) count }
-    requires count_in_bounds { row_at (sources_at unit ow w «data» offsets index_data out_offsets) count ≤ length out_data.old }
+    requires room { row_at (sources_at unit ow w «data» offsets index_data out_offsets) count ≤ length out_data.old }
     ensures { out_data.new
         ≡ overwrite (concat count (row_bytes (sources_at unit ow w «data».entry offsets.entry index_data.entry out_offsets.entry))) out_data.old }
 {

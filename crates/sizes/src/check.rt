@@ -78,8 +78,8 @@ fn data_short(layout: Layout, t: Table, data: u64, offsets: u64) -> bool
 
 // An absent validity is never short, and its bit offset may be any number.
 fn validity_short(bytes: u64, bit: u64, rows: u64) -> bool
-    requires rows_le_max_rows { rows ≤ max_rows }
-    requires bit_value { validity_over_limit bytes bit ≡ false }
+    requires few_rows { rows ≤ max_rows }
+    requires within_limit { validity_over_limit bytes bit ≡ false }
     ensures { result ≡ validity_short bytes bit rows }
 {
     if bytes == 0 {
@@ -90,7 +90,7 @@ fn validity_short(bytes: u64, bit: u64, rows: u64) -> bool
 
 fn too_short(layout: Layout, t: Table, n: Lengths) -> bool
     requires bounds { Bounds layout t }
-    requires validity_bit_value { validity_over_limit n.validity t.validity_bit ≡ false }
+    requires validity_within_limit { validity_over_limit n.validity t.validity_bit ≡ false }
     ensures { result ≡ too_short layout t n }
 {
     data_short(layout, t, n.data, n.offsets) | validity_short(n.validity, t.validity_bit, t.rows)
@@ -98,7 +98,7 @@ fn too_short(layout: Layout, t: Table, n: Lengths) -> bool
 
 fn index_too_short(x: Indices, n: IndexLengths) -> bool
     requires index_bounds { IndexBounds x }
-    requires validity_bit_value { validity_over_limit n.validity x.validity_bit ≡ false }
+    requires validity_within_limit { validity_over_limit n.validity x.validity_bit ≡ false }
     ensures { result ≡ index_too_short x n }
 {
     (n.data < x.count * x.width) | validity_short(n.validity, x.validity_bit, x.count)

@@ -12,7 +12,7 @@ use tables::table::{Layout, Lengths, Table};
 
 fn offset_length(layout: Layout, table: Table, count: u64) -> u64
     requires bounds { Bounds layout table }
-    requires count_le_max_rows { count ≤ max_rows }
+    requires few { count ≤ max_rows }
     ensures { result ≡ offset_bytes_for layout table.offset_width count }
 {
     match layout {
@@ -26,7 +26,7 @@ fn offset_length(layout: Layout, table: Table, count: u64) -> u64
 pub fn needed_lengths(table: Table, count: u64, data: u64) -> Lengths
     requires row_fits { RowFits (kind_of table.kind) table }
     requires bounds { Bounds (layout_of (kind_of table.kind) table.width table.size) table }
-    requires count_le_max_rows { count ≤ max_rows }
+    requires few { count ≤ max_rows }
     ensures { result ≡ lengths_for (layout_of (kind_of table.kind) table.width table.size) table.offset_width count «data» }
 {
     let kind = kind_of(table.kind);

@@ -44,14 +44,14 @@ pub fn take_values(
 )
     requires ready { Ready (column_at table «data» offsets validity) (index_column_at indices index_data index_validity) }
     requires has_room { HasRoom (column_at table «data» offsets validity) (index_column_at indices index_data index_validity) out_offsets.old out_data.old }
-    requires nulls_value { nulls ≡ null_count (taken (column_at table «data» offsets validity) (index_column_at indices index_data index_validity)) }
+    requires nulls { nulls ≡ null_count (taken (column_at table «data» offsets validity) (index_column_at indices index_data index_validity)) }
     requires no_overflow { NoOverflow (column_at table «data» offsets validity) (index_column_at indices index_data index_validity) }
     requires validates { Validates validity.now table.validity_bit (index_column_at indices index_data index_validity) out_validity.now }
-    ensures out_offsets_after { out_offsets.new ≡ stored_offsets
+    ensures offsets_stored { out_offsets.new ≡ stored_offsets
         (column_at table «data».entry offsets.entry validity.entry)
         (index_column_at indices index_data.entry index_validity.entry)
         out_offsets.old }
-    ensures out_data_after { out_data.new ≡ stored_data
+    ensures data_stored { out_data.new ≡ stored_data
         (column_at table «data».entry offsets.entry validity.entry)
         (index_column_at indices index_data.entry index_validity.entry)
         out_data.old }

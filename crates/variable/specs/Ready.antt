@@ -7,9 +7,9 @@ use Rattle.gathers.specs.Ready.{Ready, NoOverflow, HasRoom}
 
 -- a column of variable width, with entries of u bytes, and an index column that pass refusals 1 to 7, and the validity of the output rows as it is
 -- written in `valid`
-pub record VariableReady (u : ℕ) (c : Column) (x : IndexColumn) (valid out_offsets outData : List ℕ) : Type 0 where
+pub record VariableReady (u : ℕ) (c : Column) (x : IndexColumn) (valid out_offsets out_data : List ℕ) : Type 0 where
   pub ready : Ready c x
   pub layout : layout_at c ≡ VariableWidth u
   pub shows : Validates c.validity c.table.validity_bit x valid
   pub no_overflow : NoOverflow c x
-  pub room : HasRoom c x out_offsets outData
+  pub room : HasRoom c x out_offsets out_data

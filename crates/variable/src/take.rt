@@ -26,9 +26,9 @@ fn take_variable(
 )
     requires { VariableReady unit (column_at table «data» offsets validity) (index_column_at indices index_data index_validity)
         out_validity.now out_offsets.old out_data.old }
-    ensures out_offsets_after { out_offsets.new
+    ensures offsets_stored { out_offsets.new
         ≡ stored_offsets (column_at table «data».entry offsets.entry validity.entry) (index_column_at indices index_data.entry index_validity.entry) out_offsets.old }
-    ensures out_data_after { out_data.new
+    ensures data_stored { out_data.new
         ≡ stored_data (column_at table «data».entry offsets.entry validity.entry) (index_column_at indices index_data.entry index_validity.entry) out_data.old }
 {
     let ow = table.offset_width as usize;
@@ -67,9 +67,9 @@ pub fn take_bytes(
 )
     requires { VariableReady 1 (column_at table «data» offsets validity) (index_column_at indices index_data index_validity)
         out_validity.now out_offsets.old out_data.old }
-    ensures out_offsets_after { out_offsets.new
+    ensures offsets_stored { out_offsets.new
         ≡ stored_offsets (column_at table «data».entry offsets.entry validity.entry) (index_column_at indices index_data.entry index_validity.entry) out_offsets.old }
-    ensures out_data_after { out_data.new
+    ensures data_stored { out_data.new
         ≡ stored_data (column_at table «data».entry offsets.entry validity.entry) (index_column_at indices index_data.entry index_validity.entry) out_data.old }
 {
     take_variable(
@@ -102,9 +102,9 @@ pub fn take_list(
 )
     requires { VariableReady table.width (column_at table «data» offsets validity) (index_column_at indices index_data index_validity)
         out_validity.now out_offsets.old out_data.old }
-    ensures out_offsets_after { out_offsets.new
+    ensures offsets_stored { out_offsets.new
         ≡ stored_offsets (column_at table «data».entry offsets.entry validity.entry) (index_column_at indices index_data.entry index_validity.entry) out_offsets.old }
-    ensures out_data_after { out_data.new
+    ensures data_stored { out_data.new
         ≡ stored_data (column_at table «data».entry offsets.entry validity.entry) (index_column_at indices index_data.entry index_validity.entry) out_data.old }
 {
     take_variable(

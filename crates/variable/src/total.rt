@@ -55,7 +55,7 @@ pub fn measure_variable(
     unit: u64,
 ) -> Measured
     requires ready { Ready (column_at table «data» offsets validity) (index_column_at indices index_data index_validity) }
-    requires validity_value { layout_at (column_at table «data» offsets validity) ≡ VariableWidth unit }
+    requires layout { layout_at (column_at table «data» offsets validity) ≡ VariableWidth unit }
     ensures { measured_numbers result
         ≡ measured (taken (column_at table «data».entry offsets.entry validity.entry) (index_column_at indices index_data.entry index_validity.entry)) }
 {

@@ -22,7 +22,7 @@ pub fn sum_by_width(
     index_validity: &[u8],
     at: Places,
 ) -> u64
-    requires ow_value { (is_offset_width ow ≡ true) × (is_number_width w ≡ true) }
+    requires offset_width { (is_offset_width ow ≡ true) × (is_number_width w ≡ true) }
     requires selected_there { SelectedThere ow offsets.now (selection_at validity at.bit index_data w index_validity at.index_bit) at.count }
     ensures { result ≡ sum at.count (selected_entries ow offsets.now (selection_at validity.entry at.bit index_data.entry w index_validity.entry at.index_bit)) }
 {
@@ -51,9 +51,9 @@ pub fn put_by_width(
     count: usize,
     out_offsets: &mut [u8],
 )
-    requires ow_value { is_offset_width ow ≡ true }
+    requires offset_width { is_offset_width ow ≡ true }
     requires shown_there { ShownThere ow offsets.now w index_data.now out_validity.now count }
-    requires ow_in_bounds { suc count * ow ≤ length out_offsets.old }
+    requires room { suc count * ow ≤ length out_offsets.old }
     ensures { out_offsets.new
         ≡ overwrite (total_bytes ow (shown_entries ow offsets.now w index_data.now out_validity.now) (suc count)) out_offsets.old }
 {
@@ -77,10 +77,10 @@ pub fn copy_by_width(
     out_offsets: &[u8],
     out_data: &mut [u8],
 )
-    requires ow_value { is_offset_width ow ≡ true }
+    requires offset_width { is_offset_width ow ≡ true }
     requires copy_ready { CopyReady (sources_at unit ow w «data» offsets index_data out_offsets) out_validity.now needed
         (row_at (sources_at unit ow w «data» offsets index_data out_offsets) count) count }
-    requires count_in_bounds { row_at (sources_at unit ow w «data» offsets index_data out_offsets) count ≤ length out_data.old }
+    requires room { row_at (sources_at unit ow w «data» offsets index_data out_offsets) count ≤ length out_data.old }
     ensures { out_data.new
         ≡ overwrite (concat count (row_bytes (sources_at unit ow w «data».entry offsets.entry index_data.entry out_offsets.entry))) out_data.old }
 {

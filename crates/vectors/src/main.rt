@@ -1,4 +1,4 @@
-// Runs every case of the files beside it through the exported entries, and compares each number of the answer and each byte of the outputs. Writes a line
+// Runs every case of the files beside it through the functions that C calls, and compares each number of the answer and each byte of the outputs. Writes a line
 // for each file, and before it the file's first difference, if there is one. The answers of take-kernels.txt are published ones: the file keeps them byte
 // for byte, and `main`, which names it, has them compared with zeros below nulls (published.rt). One line more says how many had other bytes there.
 #![tactic(auto)]

@@ -12,7 +12,7 @@ use blocks::valid::take_valid;
 // All rows, by numbers of 1 byte.
 fn all_by_u8(data: &[u8], n: usize, w: u64, count: usize, index_data: &[u8], out_data: &mut [u8])
     requires named { Named n w count index_data.now [] «data».now out_data.old }
-    requires w_value { w ≡ 1 }
+    requires width { w ≡ 1 }
     ensures { out_data.new ≡ overwrite (named_blocks n w count index_data.now [] «data».now) out_data.old }
 {
     match n {
@@ -29,7 +29,7 @@ fn all_by_u8(data: &[u8], n: usize, w: u64, count: usize, index_data: &[u8], out
 // All rows, by numbers of 2 bytes.
 fn all_by_u16(data: &[u8], n: usize, w: u64, count: usize, index_data: &[u8], out_data: &mut [u8])
     requires named { Named n w count index_data.now [] «data».now out_data.old }
-    requires w_value { w ≡ 2 }
+    requires width { w ≡ 2 }
     ensures { out_data.new ≡ overwrite (named_blocks n w count index_data.now [] «data».now) out_data.old }
 {
     match n {
@@ -46,7 +46,7 @@ fn all_by_u16(data: &[u8], n: usize, w: u64, count: usize, index_data: &[u8], ou
 // All rows, by numbers of 4 bytes.
 fn all_by_u32(data: &[u8], n: usize, w: u64, count: usize, index_data: &[u8], out_data: &mut [u8])
     requires named { Named n w count index_data.now [] «data».now out_data.old }
-    requires w_value { w ≡ 4 }
+    requires width { w ≡ 4 }
     ensures { out_data.new ≡ overwrite (named_blocks n w count index_data.now [] «data».now) out_data.old }
 {
     match n {
@@ -63,7 +63,7 @@ fn all_by_u32(data: &[u8], n: usize, w: u64, count: usize, index_data: &[u8], ou
 // All rows, by numbers of 8 bytes.
 fn all_by_u64(data: &[u8], n: usize, w: u64, count: usize, index_data: &[u8], out_data: &mut [u8])
     requires named { Named n w count index_data.now [] «data».now out_data.old }
-    requires w_value { w ≡ 8 }
+    requires width { w ≡ 8 }
     ensures { out_data.new ≡ overwrite (named_blocks n w count index_data.now [] «data».now) out_data.old }
 {
     match n {
@@ -109,8 +109,8 @@ fn valid_by_u8<'a>(
     out_data: &mut [u8],
 )
     requires named { Named n w count index_data.now valid.now «data».now out_data.old }
-    requires w_value { w ≡ 1 }
-    requires valid_value { (is_absent valid.now ≡ false) × (zeros.now ≡ replicate 32 0) }
+    requires width { w ≡ 1 }
+    requires with_nulls { (is_absent valid.now ≡ false) × (zeros.now ≡ replicate 32 0) }
     ensures { out_data.new ≡ overwrite (named_blocks n w count index_data.now valid.now «data».now) out_data.old }
 {
     match n {
@@ -136,8 +136,8 @@ fn valid_by_u16<'a>(
     out_data: &mut [u8],
 )
     requires named { Named n w count index_data.now valid.now «data».now out_data.old }
-    requires w_value { w ≡ 2 }
-    requires valid_value { (is_absent valid.now ≡ false) × (zeros.now ≡ replicate 32 0) }
+    requires width { w ≡ 2 }
+    requires with_nulls { (is_absent valid.now ≡ false) × (zeros.now ≡ replicate 32 0) }
     ensures { out_data.new ≡ overwrite (named_blocks n w count index_data.now valid.now «data».now) out_data.old }
 {
     match n {
@@ -163,8 +163,8 @@ fn valid_by_u32<'a>(
     out_data: &mut [u8],
 )
     requires named { Named n w count index_data.now valid.now «data».now out_data.old }
-    requires w_value { w ≡ 4 }
-    requires valid_value { (is_absent valid.now ≡ false) × (zeros.now ≡ replicate 32 0) }
+    requires width { w ≡ 4 }
+    requires with_nulls { (is_absent valid.now ≡ false) × (zeros.now ≡ replicate 32 0) }
     ensures { out_data.new ≡ overwrite (named_blocks n w count index_data.now valid.now «data».now) out_data.old }
 {
     match n {
@@ -190,8 +190,8 @@ fn valid_by_u64<'a>(
     out_data: &mut [u8],
 )
     requires named { Named n w count index_data.now valid.now «data».now out_data.old }
-    requires w_value { w ≡ 8 }
-    requires valid_value { (is_absent valid.now ≡ false) × (zeros.now ≡ replicate 32 0) }
+    requires width { w ≡ 8 }
+    requires with_nulls { (is_absent valid.now ≡ false) × (zeros.now ≡ replicate 32 0) }
     ensures { out_data.new ≡ overwrite (named_blocks n w count index_data.now valid.now «data».now) out_data.old }
 {
     match n {
@@ -218,7 +218,7 @@ pub fn valid_by_width<'a>(
     out_data: &mut [u8],
 )
     requires named { Named n w count index_data.now valid.now «data».now out_data.old }
-    requires valid_value { (is_absent valid.now ≡ false) × (zeros.now ≡ replicate 32 0) }
+    requires with_nulls { (is_absent valid.now ≡ false) × (zeros.now ≡ replicate 32 0) }
     ensures { out_data.new ≡ overwrite (named_blocks n w count index_data.now valid.now «data».now) out_data.old }
 {
     match w {

@@ -14,7 +14,7 @@ pub pack_bits-requires : goal.pack_bits-requires
 pack_bits-requires c =
     let x = index-formed _ c.requires.in_range.passed in
     let d = and-true (nat_eq c.args.rows 0) (not (is_absent c.args.index_validity.now)) c.if-rows-index_validity.true in
-    (valid-bits-there c.args.index_validity.now _ _ x.validity_fits (not-true (is_absent c.args.index_validity.now) d.1), omega (arith, x.count), c.requires.count_in_bounds)
+    (valid-bits-there c.args.index_validity.now _ _ x.validity_fits (not-true (is_absent c.args.index_validity.now) d.1), omega (arith, x.count), c.requires.room)
 
 pub returns-then-rows-index_validity : goal.returns-then-rows-index_validity
 returns-then-rows-index_validity c =

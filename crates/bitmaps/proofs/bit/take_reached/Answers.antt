@@ -10,8 +10,8 @@ use Rattle.bitmaps.proofs.bit.take_reached.Goals as goal
 pub loop-k-init : goal.loop-k-init
 loop-k-init c = record { inside = omega arith; packed = bytes-none _ _ }
 
-pub valid_byte-valid-requires-clause-n_bound : goal.valid_byte-valid-requires-clause-n_bound
-valid_byte-valid-requires-clause-n_bound c =
+pub valid_byte-valid-requires-clause-there : goal.valid_byte-valid-requires-clause-there
+valid_byte-valid-requires-clause-there c =
     let a = c.args in
     valid-there a.src.now a.bit_offset (index_column_at a.indices a.index_data a.index_validity) c.requires.reached (8 * c.loop-k.k) 8 (omega arith) (omega arith)
 
@@ -39,8 +39,8 @@ returns-then-rest-eq0 c =
     let e : c.loop-k.k ≡ bytes_for c.args.indices.count = omega arith in
     bytes-end _ _ c.args.out.now c.loop-k.k e c.loop-k.invariant.packed
 
-pub valid_byte-valid-requires-2-clause-n_bound : goal.valid_byte-valid-requires-2-clause-n_bound
-valid_byte-valid-requires-2-clause-n_bound c =
+pub valid_byte-valid-requires-2-clause-there : goal.valid_byte-valid-requires-2-clause-there
+valid_byte-valid-requires-2-clause-there c =
     let a = c.args in
     valid-there a.src.now a.bit_offset (index_column_at a.indices a.index_data a.index_validity) c.requires.reached (8 * c.loop-k.k) _ (omega arith) (omega arith)
 

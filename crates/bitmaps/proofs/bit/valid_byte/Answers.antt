@@ -13,4 +13,4 @@ returns-then-index_validity-eq0 c =
 pub returns : goal.returns
 returns c =
     let a = c.args in
-    valid-read a.index_validity.now a.bit_offset a.p a.n c.if-index_validity-eq0.false c.requires.n_nonzero.1 c.bits_at.ensures
+    valid-read a.index_validity.now a.bit_offset a.p a.n c.if-index_validity-eq0.false c.requires.few.1 c.bits_at.ensures

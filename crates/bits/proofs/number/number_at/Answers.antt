@@ -19,6 +19,6 @@ returns-then-w-eq2 c = rw c.if-w-eq2.true c.read_u16.ensures
 pub returns : goal.returns
 returns c =
     let a = c.args in
-    let e = width_one a.w c.requires.w_value c.if-w-eq4.false c.if-w-eq8.false c.if-w-eq2.false in
+    let e = width_one a.w c.requires.width c.if-w-eq4.false c.if-w-eq8.false c.if-w-eq2.false in
     let h : a.i < length a.buf.now = omega (arith, ap (λ (n : ℕ). a.i * n) e) in
     c.wide.ensures.0 ∙ sym (ap (λ (n : ℕ). number_at n a.buf.now a.i) e ∙ number_at-byte a.buf.now a.i h)

@@ -11,7 +11,7 @@ returns c =
     let a = c.args in
     let s = c.source-2 in
     let b = part (a.row * a.n) a.n a.«data».now in
-    let k = source-short a.valid a.n b a.zeros.now c.requires.zeros_value c.if-n-gt32.false s.ensures in
+    let k = source-short a.valid a.n b a.zeros.now c.requires.zeros c.if-n-gt32.false s.ensures in
     c.copy_block.ensures
     ∙ ap (λ (z : List ℕ). overwrite_at a.at z a.dst.now)
-    (take_all a.n s.result.now (omega (arith, source_fits a.valid a.n (a.row * a.n) a.«data».now c.requires.n_in_bounds k)) ∙ k)
+    (take_all a.n s.result.now (omega (arith, source_fits a.valid a.n (a.row * a.n) a.«data».now c.requires.row_there k)) ∙ k)

@@ -3,18 +3,18 @@ use Rattle.std.proofs.Common.{◌+◌, ◌*◌, ◌<◌, arith}
 use Rattle.blocks.proofs.Blocks.{row-there, block-taken, block-after, valid-bit}
 use Rattle.blocks.proofs.valid.take_byte.Goals as goal
 
-pub take_block-requires-clause-n_in_bounds : goal.take_block-requires-clause-n_in_bounds
-take_block-requires-clause-n_in_bounds c =
+pub take_block-requires-clause-row_there : goal.take_block-requires-clause-row_there
+take_block-requires-clause-row_there c =
     let a = c.args in
     let h : 8 * a.k + c.loop-t.t < 8 * a.k + a.m = omega arith in
-    row-there c.requires.named h c.number_at-row.ensures (valid-bit a.valid.now a.k c.loop-t.t c.requires.valid_value.0 (omega arith))
+    row-there c.requires.named h c.number_at-row.ensures (valid-bit a.valid.now a.k c.loop-t.t c.requires.byte_there.0 (omega arith))
 
 pub loop-t-preserved : goal.loop-t-preserved
 loop-t-preserved c =
     let a = c.args in
     let at = c.loop-t in
     let h : 8 * a.k + at.t < 8 * a.k + a.m = omega arith in
-    let v = valid-bit a.valid.now a.k at.t c.requires.valid_value.0 (omega arith) in
+    let v = valid-bit a.valid.now a.k at.t c.requires.byte_there.0 (omega arith) in
     record {
       within = omega arith;
       written =

@@ -7,5 +7,5 @@ pub returns : goal.returns
 returns c =
     let a = c.args in
     ends a.w a.p a.n a.src.now a.dst.now c.type_inv.src
-    (c.requires.w_value.1, c.requires.w_value.2) c.requires.n_in_bounds.0 (omega (arith, c.requires.n_in_bounds))
+    (c.requires.width.1, c.requires.width.2) c.requires.there.0 (omega (arith, c.requires.there))
     c.read_number-x.ensures c.read_number-y.ensures c.write_number.ensures c.write_number-2.ensures

@@ -30,7 +30,7 @@ pub needed_lengths-needed-requires : goal.needed_lengths-needed-requires
 needed_lengths-needed-requires c =
     let d = column_at c.args.table c.args.«data» c.args.offsets c.args.validity in
     let r = rest-ready d _ c.requires (c.check_offsets-formed.ensures ∙ offsets-bare d) c.in-Fit.is c.check_range-inside.ensures c.in-Fit-inside.is in
-    record { row_fits = rows_fit _ r.column; bounds = bounds-told _ r.column; count_le_max_rows = ready-count _ _ r }
+    record { row_fits = rows_fit _ r.column; bounds = bounds-told _ r.column; few = ready-count _ _ r }
 
 pub returns : goal.returns
 returns c =

@@ -4,4 +4,4 @@ use Rattle.gathers.proofs.Stages.{range-accepts}
 use Rattle.described.proofs.column.check_range.Goals as goal
 
 pub returns-then-not-first : goal.returns-then-not-first
-returns-then-not-first c = sym (range-accepts _ _ (c.requires.index_validity_value_2 c.if-not-first.true))
+returns-then-not-first c = sym (range-accepts _ _ (c.requires.range_known c.if-not-first.true))

@@ -16,11 +16,11 @@ take_values-requires-clause-has_room c =
     let o = output_at c.args.out_validity.now c.args.out_offsets.now c.args.out_data.now in
     room-by-layout _ _ o c.requires.has_room_for
 
-pub take_values-requires-clause-nulls_value : goal.take_values-requires-clause-nulls_value
-take_values-requires-clause-nulls_value c = nulls-counted _ _ c.requires.ready c.take_nulls-nulls.ensures.value
+pub take_values-requires-clause-nulls : goal.take_values-requires-clause-nulls
+take_values-requires-clause-nulls c = nulls-counted _ _ c.requires.ready c.take_nulls-nulls.ensures.nulls
 
 pub take_values-requires-clause-validates : goal.take_values-requires-clause-validates
-take_values-requires-clause-validates c = validates _ _ _ _ c.requires.has_room_for.validity c.take_nulls-nulls.ensures.out_validity_after
+take_values-requires-clause-validates c = validates _ _ _ _ c.requires.has_room_for.validity c.take_nulls-nulls.ensures.validity_stored
 
 pub layout_of-layout-requires : goal.layout_of-layout-requires
 layout_of-layout-requires c = ready-row-fits _ _ c.requires.ready c.kind_of-kind.ensures
@@ -29,12 +29,12 @@ pub data_written-written-requires : goal.data_written-written-requires
 data_written-written-requires c =
     let o = output_at c.args.out_validity.now c.args.out_offsets.now c.args.out_data.now in
     let l = layout-told _ c.kind_of-kind.ensures c.layout_of-layout.ensures in
-    offsets-in _ _ c.requires.ready c.requires.no_overflow _ c.take_values.ensures.out_offsets_after l (room-by-layout _ _ o c.requires.has_room_for).0
+    offsets-in _ _ c.requires.ready c.requires.no_overflow _ c.take_values.ensures.offsets_stored l (room-by-layout _ _ o c.requires.has_room_for).0
 
 pub needed_lengths-needed-requires : goal.needed_lengths-needed-requires
 needed_lengths-needed-requires c =
     let r = c.requires.ready in
-    record { row_fits = rows_fit _ r.column; bounds = bounds-told _ r.column; count_le_max_rows = ready-count _ _ r }
+    record { row_fits = rows_fit _ r.column; bounds = bounds-told _ r.column; few = ready-count _ _ r }
 
 pub returns : goal.returns
 returns c =
@@ -43,6 +43,6 @@ returns c =
     let d = c.take_values.ensures in
     let l = layout-told _ c.kind_of-kind.ensures c.layout_of-layout.ensures in
     record {
-      told = taken-told _ _ (nulls-counted _ _ r n.value) c.needed_lengths-needed.ensures (c.data_written-written.ensures ∙ data-told _ _ r c.requires.no_overflow _ d.out_offsets_after l);
-      stored = all-stored _ _ _ (validity-stored _ _ r _ n.out_validity_after) d.out_offsets_after d.out_data_after;
+      told = taken-told _ _ (nulls-counted _ _ r n.nulls) c.needed_lengths-needed.ensures (c.data_written-written.ensures ∙ data-told _ _ r c.requires.no_overflow _ d.offsets_stored l);
+      stored = all-stored _ _ _ (validity-stored _ _ r _ n.validity_stored) d.offsets_stored d.data_stored;
     }

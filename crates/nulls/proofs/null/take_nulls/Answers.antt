@@ -11,15 +11,15 @@ use Rattle.nulls.proofs.Validity.{all_valid, no-nulls}
 use Rattle.nulls.proofs.null.take_nulls.Goals as goal
 
 pub set_bits-requires : goal.set_bits-requires
-set_bits-requires c = (omega (arith, (index-formed _ c.requires.in_range.passed).count), c.requires.count_in_bounds)
+set_bits-requires c = (omega (arith, (index-formed _ c.requires.in_range.passed).count), c.requires.room)
 
-pub returns-then-validity-index_validity-clause-value : goal.returns-then-validity-index_validity-clause-value
-returns-then-validity-index_validity-clause-value c =
+pub returns-then-validity-index_validity-clause-nulls : goal.returns-then-validity-index_validity-clause-nulls
+returns-then-validity-index_validity-clause-nulls c =
     let a = c.args in
     no-nulls a.validity.now a.bit_offset (index_column_at a.indices a.index_data a.index_validity) c.if-validity-index_validity.true
 
-pub returns-then-validity-index_validity-clause-out_validity_after : goal.returns-then-validity-index_validity-clause-out_validity_after
-returns-then-validity-index_validity-clause-out_validity_after c =
+pub returns-then-validity-index_validity-clause-validity_stored : goal.returns-then-validity-index_validity-clause-validity_stored
+returns-then-validity-index_validity-clause-validity_stored c =
     let a = c.args in
     c.set_bits.ensures
     ∙ ap (λ (e : List ℕ). overwrite e a.out_validity.now) (all_valid a.validity.now a.bit_offset (index_column_at a.indices a.index_data a.index_validity) c.if-validity-index_validity.true)
@@ -29,7 +29,7 @@ overflow_add-count c = omega (arith, (index-formed _ c.requires.in_range.passed)
 
 pub count_set_bits-requires : goal.count_set_bits-requires
 count_set_bits-requires c =
-    (omega (arith, c.requires.count_in_bounds, c.take_validity.auto), omega (arith, (index-formed _ c.requires.in_range.passed).count))
+    (omega (arith, c.requires.room, c.take_validity.auto), omega (arith, (index-formed _ c.requires.in_range.passed).count))
 
 pub overflow_sub-result : goal.overflow_sub-result
 overflow_sub-result c =
@@ -39,8 +39,8 @@ overflow_sub-result c =
     let e = c.count_set_bits.ensures ∙ ap (set_bits (bytes_for n)) c.take_validity.ensures in
     omega (arith, e, ones-and-zeros n g a.out_validity.now)
 
-pub returns-clause-value : goal.returns-clause-value
-returns-clause-value c =
+pub returns-clause-nulls : goal.returns-clause-nulls
+returns-clause-nulls c =
     let a = c.args in
     let n = a.indices.count in
     let g = taken_bit_valid a.validity.now a.bit_offset (index_column_at a.indices a.index_data a.index_validity) in

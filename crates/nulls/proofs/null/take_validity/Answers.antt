@@ -18,12 +18,12 @@ pub pack_bits-requires : goal.pack_bits-requires
 pack_bits-requires c =
     let a = c.args in
     let x = index-formed _ c.requires.in_range.passed in
-    let present = index-present a.validity.now a.bit_offset (index_column_at a.indices a.index_data a.index_validity) c.if-validity-ne0.false c.requires.index_validity_value in
-    (valid-bits-there a.index_validity.now _ _ x.validity_fits present, omega (arith, x.count), c.requires.count_in_bounds)
+    let present = index-present a.validity.now a.bit_offset (index_column_at a.indices a.index_data a.index_validity) c.if-validity-ne0.false c.requires.some_validity in
+    (valid-bits-there a.index_validity.now _ _ x.validity_fits present, omega (arith, x.count), c.requires.room)
 
 pub returns : goal.returns
 returns c =
     let a = c.args in
     let x = index_column_at a.indices a.index_data a.index_validity in
-    let present = index-present a.validity.now a.bit_offset x c.if-validity-ne0.false c.requires.index_validity_value in
+    let present = index-present a.validity.now a.bit_offset x c.if-validity-ne0.false c.requires.some_validity in
     c.pack_bits.ensures ∙ ap (λ (e : List ℕ). overwrite e a.out_validity.now) (by_index a.validity.now a.bit_offset x c.if-validity-ne0.false (eqb-false _ 0 present))

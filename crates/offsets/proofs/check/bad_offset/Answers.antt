@@ -17,4 +17,4 @@ returns c =
     let e = first-fails (ltb a.most n.result) r.ensures f in
     let l = second-fails r.result (ap (λ (m : ℕ). ltb a.most m) n.ensures) f in
     let d : a.rows + 1 ≡ suc a.rows = omega arith in
-    d ∙ sym (all-good a.w a.offsets.now a.most a.rows c.requires.offsets.width c.requires.most_le_max_bytes e (ltb-false a.most last l))
+    d ∙ sym (all-good a.w a.offsets.now a.most a.rows c.requires.offsets.width c.requires.small e (ltb-false a.most last l))

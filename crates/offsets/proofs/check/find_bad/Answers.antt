@@ -10,7 +10,7 @@ pub returns-then-offset-before : goal.returns-then-offset-before
 returns-then-offset-before c =
     let a = c.args in
     let l = c.loop-i in
-    let t = bad-test a.w a.offsets.now a.most l.i c.requires.offsets.width c.requires.most_le_max_bytes l.invariant.floor_is c.number_at-offset.ensures c.if-offset-before.true in
+    let t = bad-test a.w a.offsets.now a.most l.i c.requires.offsets.width c.requires.small l.invariant.floor_is c.number_at-offset.ensures c.if-offset-before.true in
     sym (first-at (suc a.rows) (is_bad a.w (number_at a.w a.offsets.now) a.most) l.i (omega arith) t l.invariant.none_bad)
 
 pub loop-i-preserved : goal.loop-i-preserved
@@ -18,7 +18,7 @@ loop-i-preserved c =
     let a = c.args in
     let l = c.loop-i in
     let e = c.number_at-offset.ensures in
-    let t = bad-test a.w a.offsets.now a.most l.i c.requires.offsets.width c.requires.most_le_max_bytes l.invariant.floor_is e c.if-offset-before.false in
+    let t = bad-test a.w a.offsets.now a.most l.i c.requires.offsets.width c.requires.small l.invariant.floor_is e c.if-offset-before.false in
     record {
       in_range = omega arith;
       floor_is = e ∙ sym (floor-next a.w a.offsets.now l.i);

@@ -4,6 +4,6 @@ use Rattle.bits.proofs.Numbers.{width_one}
 use Rattle.tables.proofs.Facts.{index-formed}
 use Rattle.range.proofs.bounds.check_bounds.Goals as goal
 
-pub check_bounds_at-requires-in_default-clause-width_value : goal.check_bounds_at-requires-in_default-clause-width_value
-check_bounds_at-requires-in_default-clause-width_value c =
+pub check_bounds_at-requires-in_default-clause-width : goal.check_bounds_at-requires-in_default-clause-width
+check_bounds_at-requires-in_default-clause-width c =
     width_one _ (index-formed _ c.requires).width (λ e. omega arith) (λ e. omega arith) (λ e. omega arith)

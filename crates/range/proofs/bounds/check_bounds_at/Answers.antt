@@ -8,24 +8,24 @@ use Rattle.range.proofs.bounds.check_bounds_at.Goals as goal
 
 pub is_too_narrow-requires : goal.is_too_narrow-requires
 is_too_narrow-requires c =
-    (numbers-there (index_column_at c.args.indices c.args.index_data c.args.index_validity) c.requires.width_value c.requires.index_validity_value).0
+    (numbers-there (index_column_at c.args.indices c.args.index_data c.args.index_validity) c.requires.width c.requires.index_passes).0
 
 pub returns-then-is_too_narrow : goal.returns-then-is_too_narrow
 returns-then-is_too_narrow c =
     let a = c.args in
     let x = index_column_at a.indices a.index_data a.index_validity in
-    let narrow = narrow_at x c.requires.width_value a.rows c.is_too_narrow.ensures c.if-is_too_narrow.true in
+    let narrow = narrow_at x c.requires.width a.rows c.is_too_narrow.ensures c.if-is_too_narrow.true in
     (sym (too-narrow a.rows x narrow c.type_inv.index_data), sym (looked-none a.rows x narrow))
 
-pub block_outside-from-requires-clause-w_value : goal.block_outside-from-requires-clause-w_value
-block_outside-from-requires-clause-w_value c =
-    (numbers-there (index_column_at c.args.indices c.args.index_data c.args.index_validity) c.requires.width_value c.requires.index_validity_value).0
+pub block_outside-from-requires-clause-width : goal.block_outside-from-requires-clause-width
+block_outside-from-requires-clause-width c =
+    (numbers-there (index_column_at c.args.indices c.args.index_data c.args.index_validity) c.requires.width c.requires.index_passes).0
 
-pub block_outside-from-requires-clause-rows_bound : goal.block_outside-from-requires-clause-rows_bound
-block_outside-from-requires-clause-rows_bound c =
-    let there = numbers-there (index_column_at c.args.indices c.args.index_data c.args.index_validity) c.requires.width_value c.requires.index_validity_value in
+pub block_outside-from-requires-clause-fits : goal.block_outside-from-requires-clause-fits
+block_outside-from-requires-clause-fits c =
+    let there = numbers-there (index_column_at c.args.indices c.args.index_data c.args.index_validity) c.requires.width c.requires.index_passes in
     (leb-false _ c.args.rows (sym c.is_too_narrow.ensures ∙ c.if-is_too_narrow.false), there.1)
 
 pub scan_from-requires-clause-scannable : goal.scan_from-requires-clause-scannable
 scan_from-requires-clause-scannable c =
-    scannable _ c.requires.width_value c.args.rows c.requires.index_validity_value c.is_too_narrow.ensures c.if-is_too_narrow.false c.block_outside-from.ensures
+    scannable _ c.requires.width c.args.rows c.requires.index_passes c.is_too_narrow.ensures c.if-is_too_narrow.false c.block_outside-from.ensures

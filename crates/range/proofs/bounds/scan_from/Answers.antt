@@ -17,13 +17,13 @@ loop-j-init c =
     let s = c.requires.scannable in
     record { inside = s.inside; unmet = refl; all = refl; before = none-outside a.rows (index_column_at a.indices a.index_data a.index_validity) a.from s.before }
 
-pub number_at-requires-clause-w_value : goal.number_at-requires-clause-w_value
-number_at-requires-clause-w_value c =
-    (number-there (index_column_at c.args.indices c.args.index_data c.args.index_validity) c.requires.width_value (index-formed _ c.requires.scannable.tested) c.loop-j.j c.loop-j-test.true).0
+pub number_at-requires-clause-width : goal.number_at-requires-clause-width
+number_at-requires-clause-width c =
+    (number-there (index_column_at c.args.indices c.args.index_data c.args.index_validity) c.requires.width (index-formed _ c.requires.scannable.tested) c.loop-j.j c.loop-j-test.true).0
 
-pub number_at-requires-clause-w_in_bounds : goal.number_at-requires-clause-w_in_bounds
-number_at-requires-clause-w_in_bounds c =
-    (number-there (index_column_at c.args.indices c.args.index_data c.args.index_validity) c.requires.width_value (index-formed _ c.requires.scannable.tested) c.loop-j.j c.loop-j-test.true).1
+pub number_at-requires-clause-there : goal.number_at-requires-clause-there
+number_at-requires-clause-there c =
+    (number-there (index_column_at c.args.indices c.args.index_data c.args.index_validity) c.requires.width (index-formed _ c.requires.scannable.tested) c.loop-j.j c.loop-j-test.true).1
 
 pub is_valid-requires : goal.is_valid-requires
 is_valid-requires c = index-valid-there _ (index-formed _ c.requires.scannable.tested) c.loop-j.j c.loop-j-test.true
@@ -35,7 +35,7 @@ loop-j-preserved c =
     let x = index_column_at a.indices a.index_data a.index_validity in
     let good : is_outside a.rows x at.j ≡ false = elim c.if-rows-number_at.branch [
       | then-rows-number_at+else-is_valid-eq1 w ↦ null a.rows x at.j w.is_valid.ensures w.if-is_valid-eq1.false
-      | else-rows-number_at w ↦ below a.rows x at.j c.requires.width_value c.number_at.ensures w.if-rows-number_at.false
+      | else-rows-number_at w ↦ below a.rows x at.j c.requires.width c.number_at.ensures w.if-rows-number_at.false
     ] in
     record { inside = omega arith; unmet = at.invariant.unmet; all = at.invariant.all; before = below_more _ _ at.invariant.before good }
 
@@ -55,7 +55,7 @@ returns-then-is_valid-eq1 c =
     let inside = c.loop-j-test.true in
     let a = c.args in
     let x = index_column_at a.indices a.index_data a.index_validity in
-    let bad = found a.rows x at.j c.is_valid.ensures c.requires.width_value c.number_at.ensures c.if-rows-number_at.true c.if-is_valid-eq1.true in (
+    let bad = found a.rows x at.j c.is_valid.ensures c.requires.width c.number_at.ensures c.if-rows-number_at.true c.if-is_valid-eq1.true in (
       sym (range-refused a.rows x at.j inside bad at.invariant.before),
       sym (looked-through a.rows x c.requires.scannable.wide at.j inside bad at.invariant.before),
     )

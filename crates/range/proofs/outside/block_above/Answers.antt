@@ -12,7 +12,7 @@ loop-from-preserved c =
     let l = c.loop-from in
     let n = c.block_len-n.result in
     let inside : (l.from + n) * a.w ≤ a.count * a.w = mul-le-mul_right a.w (omega arith) in
-    let fits : (l.from + n) * a.w ≤ length a.index_data.now = omega (arith, c.requires.last_bound.1) in
+    let fits : (l.from + n) * a.w ≤ length a.index_data.now = omega (arith, c.requires.fits.1) in
     let start : l.from % 512 ≡ 0 = l.invariant.start c.loop-from-test.true in
     let none = sym (block-numbers a.w l.from n a.index_data.now fits (nat_lt a.last)) ∙ sym c.some_above.ensures ∙ c.if-some_above.false in record {
       inside = omega arith;
@@ -34,6 +34,6 @@ returns-then-some_above c =
     let a = c.args in
     let n = c.block_len-n.result in
     let inside : (l.from + n) * a.w ≤ a.count * a.w = mul-le-mul_right a.w (omega arith) in
-    let fits : (l.from + n) * a.w ≤ length a.index_data.now = omega (arith, c.requires.last_bound.1) in
+    let fits : (l.from + n) * a.w ≤ length a.index_data.now = omega (arith, c.requires.fits.1) in
     let met = sym (block-numbers a.w l.from n a.index_data.now fits (nat_lt a.last)) ∙ sym c.some_above.ensures ∙ c.if-some_above.true in
     block-met a.count (λ j. nat_lt a.last (number_at a.w a.index_data.now j)) l.from n (l.invariant.start c.loop-from-test.true) (omega arith) (omega arith) l.invariant.before met

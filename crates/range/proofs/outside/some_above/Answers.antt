@@ -3,6 +3,6 @@ use Rattle.std.proofs.Common.{arith}
 use Rattle.bits.proofs.Numbers.{number_at-lt}
 use Rattle.range.proofs.outside.some_above.Goals as goal
 
-pub is_above-above-requires-clause-last_bound : goal.is_above-above-requires-clause-last_bound
-is_above-above-requires-clause-last_bound c =
-    (c.requires.last_bound.0, omega (arith, c.number_at.ensures, number_at-lt c.args.w c.args.numbers.now c.loop-k.k c.type_inv.numbers))
+pub is_above-above-requires-clause-fits : goal.is_above-above-requires-clause-fits
+is_above-above-requires-clause-fits c =
+    (c.requires.fits.0, omega (arith, c.number_at.ensures, number_at-lt c.args.w c.args.numbers.now c.loop-k.k c.type_inv.numbers))

@@ -3,16 +3,16 @@ use Rattle.std.proofs.Common.{◌+◌, arith}
 use Rattle.reader.proofs.Rows.{nothing, unfit, formed-column, other-kind, absent-row, null-row, row-bit, offset-can, row_at, row_inside}
 use Rattle.reader.proofs.row.find_row.Goals as goal
 
-pub returns-in_default-clause-value : goal.returns-in_default-clause-value
-returns-in_default-clause-value c = nothing _ _ (unfit _ _ c.check_table-checked.ensures c.in_default.is)
+pub returns-in_default-clause-found : goal.returns-in_default-clause-found
+returns-in_default-clause-found c = nothing _ _ (unfit _ _ c.check_table-checked.ensures c.in_default.is)
 
-pub returns-then-table-ne3-clause-value : goal.returns-then-table-ne3-clause-value
-returns-then-table-ne3-clause-value c =
+pub returns-then-table-ne3-clause-found : goal.returns-then-table-ne3-clause-found
+returns-then-table-ne3-clause-found c =
     let w = formed-column _ c.check_table-checked.ensures c.in-Fit.is in
     nothing _ _ (other-kind _ _ w c.if-table-ne3.true)
 
-pub returns-then-table-row-clause-value : goal.returns-then-table-row-clause-value
-returns-then-table-row-clause-value c =
+pub returns-then-table-row-clause-found : goal.returns-then-table-row-clause-found
+returns-then-table-row-clause-found c =
     let w = formed-column _ c.check_table-checked.ensures c.in-Fit.is in
     nothing _ _ (absent-row _ _ w c.if-table-row.true)
 
@@ -21,33 +21,33 @@ is_valid-requires c =
     let w = formed-column _ c.check_table-checked.ensures c.in-Fit.is in
     row-bit _ _ w c.if-table-ne3.false c.if-table-row.false
 
-pub returns-then-is_valid-ne1-clause-value : goal.returns-then-is_valid-ne1-clause-value
-returns-then-is_valid-ne1-clause-value c =
+pub returns-then-is_valid-ne1-clause-found : goal.returns-then-is_valid-ne1-clause-found
+returns-then-is_valid-ne1-clause-found c =
     let w = formed-column _ c.check_table-checked.ensures c.in-Fit.is in
     nothing _ _ (null-row _ _ w c.if-table-ne3.false c.if-table-row.false c.is_valid.ensures c.if-is_valid-ne1.true)
 
-pub number_at-from-requires-clause-w_value : goal.number_at-from-requires-clause-w_value
-number_at-from-requires-clause-w_value c =
+pub number_at-from-requires-clause-width : goal.number_at-from-requires-clause-width
+number_at-from-requires-clause-width c =
     let w = formed-column _ c.check_table-checked.ensures c.in-Fit.is in
     (offset-can _ _ w c.if-table-ne3.false c.if-table-row.false c.args.row (omega arith)).0
 
-pub number_at-from-requires-clause-w_in_bounds : goal.number_at-from-requires-clause-w_in_bounds
-number_at-from-requires-clause-w_in_bounds c =
+pub number_at-from-requires-clause-there : goal.number_at-from-requires-clause-there
+number_at-from-requires-clause-there c =
     let w = formed-column _ c.check_table-checked.ensures c.in-Fit.is in
     (offset-can _ _ w c.if-table-ne3.false c.if-table-row.false c.args.row (omega arith)).1
 
-pub number_at-to-requires-clause-w_value : goal.number_at-to-requires-clause-w_value
-number_at-to-requires-clause-w_value c =
+pub number_at-to-requires-clause-width : goal.number_at-to-requires-clause-width
+number_at-to-requires-clause-width c =
     let w = formed-column _ c.check_table-checked.ensures c.in-Fit.is in
     (offset-can _ _ w c.if-table-ne3.false c.if-table-row.false (c.args.row + 1) (omega arith)).0
 
-pub number_at-to-requires-clause-w_in_bounds : goal.number_at-to-requires-clause-w_in_bounds
-number_at-to-requires-clause-w_in_bounds c =
+pub number_at-to-requires-clause-there : goal.number_at-to-requires-clause-there
+number_at-to-requires-clause-there c =
     let w = formed-column _ c.check_table-checked.ensures c.in-Fit.is in
     (offset-can _ _ w c.if-table-ne3.false c.if-table-row.false (c.args.row + 1) (omega arith)).1
 
-pub returns-clause-value : goal.returns-clause-value
-returns-clause-value c =
+pub returns-clause-found : goal.returns-clause-found
+returns-clause-found c =
     let w = formed-column _ c.check_table-checked.ensures c.in-Fit.is in
     row_at _ _ w c.if-table-ne3.false c.if-table-row.false c.is_valid.ensures c.if-is_valid-ne1.false c.number_at-from.ensures c.number_at-to.ensures
 

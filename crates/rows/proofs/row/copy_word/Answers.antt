@@ -4,13 +4,13 @@ use Rattle.rows.proofs.row.copy_word.Goals as goal
 
 pub copy_row-requires-clause-row_there : goal.copy_row-requires-clause-row_there
 copy_row-requires-clause-row_there c =
-    word_row c.requires.copy_ready c.type_inv.out_validity c.requires.used_in_bounds.1 c.loop-word.invariant c.loop-word-test.true
+    word_row c.requires.copy_ready c.type_inv.out_validity c.requires.word_there.1 c.loop-word.invariant c.loop-word-test.true
 
 pub loop-word-preserved : goal.loop-word-preserved
 loop-word-preserved c =
-    word_next c.requires.copy_ready c.type_inv.out_validity c.requires.used_in_bounds.1 c.loop-word.invariant c.loop-word-test.true
-    c.requires.used_in_bounds.0 c.copy_row.ensures
+    word_next c.requires.copy_ready c.type_inv.out_validity c.requires.word_there.1 c.loop-word.invariant c.loop-word-test.true
+    c.requires.word_there.0 c.copy_row.ensures
 
 pub returns : goal.returns
 returns c =
-    word_end c.requires.copy_ready c.type_inv.out_validity c.requires.used_in_bounds.1 c.loop-word.invariant c.loop-word-test.false
+    word_end c.requires.copy_ready c.type_inv.out_validity c.requires.word_there.1 c.loop-word.invariant c.loop-word-test.false

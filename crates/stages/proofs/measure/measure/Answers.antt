@@ -14,8 +14,8 @@ overflow_mul-result c = omega (arith, ready-bytes _ _ c.requires _ (layout-told 
 pub overflow_add-result : goal.overflow_add-result
 overflow_add-result c = omega (arith, ready-count _ _ c.requires)
 
-pub measure_variable-requires-clause-validity_value : goal.measure_variable-requires-clause-validity_value
-measure_variable-requires-clause-validity_value c = layout-told _ c.kind_of-kind.ensures c.in-VariableWidth.ensures
+pub measure_variable-requires-clause-layout : goal.measure_variable-requires-clause-layout
+measure_variable-requires-clause-layout c = layout-told _ c.kind_of-kind.ensures c.in-VariableWidth.ensures
 
 pub returns-in-FixedWidth : goal.returns-in-FixedWidth
 returns-in-FixedWidth c = blocks-measured _ _ _ (layout-told _ c.kind_of-kind.ensures c.in-FixedWidth.ensures)

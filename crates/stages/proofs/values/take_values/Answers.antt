@@ -9,49 +9,49 @@ shown-valid-requires c = (ready-count _ _ c.requires.ready, c.requires.validates
 pub take_native-requires-clause-blocked : goal.take_native-requires-clause-blocked
 take_native-requires-clause-blocked c =
     let p = c.requires in
-    let q = picked _ _ p.ready p.validates p.nulls_value c.shown-valid.ensures in
+    let q = picked _ _ p.ready p.validates p.nulls c.shown-valid.ensures in
     let e = layout-by _ (kind-told _ c.in-Primitive.ensures refl) in
     blocked _ _ p.ready q _ e p.has_room.1
 
-pub returns-in-Primitive-clause-out_offsets_after : goal.returns-in-Primitive-clause-out_offsets_after
-returns-in-Primitive-clause-out_offsets_after c =
+pub returns-in-Primitive-clause-offsets_stored : goal.returns-in-Primitive-clause-offsets_stored
+returns-in-Primitive-clause-offsets_stored c =
     let p = c.requires in
-    let q = picked _ _ p.ready p.validates p.nulls_value c.shown-valid.ensures in
+    let q = picked _ _ p.ready p.validates p.nulls c.shown-valid.ensures in
     let e = layout-by _ (kind-told _ c.in-Primitive.ensures refl) in
     blocks-keep _ _ p.ready q _ e _
 
-pub returns-in-Primitive-clause-out_data_after : goal.returns-in-Primitive-clause-out_data_after
-returns-in-Primitive-clause-out_data_after c =
+pub returns-in-Primitive-clause-data_stored : goal.returns-in-Primitive-clause-data_stored
+returns-in-Primitive-clause-data_stored c =
     let p = c.requires in
-    let q = picked _ _ p.ready p.validates p.nulls_value c.shown-valid.ensures in
+    let q = picked _ _ p.ready p.validates p.nulls c.shown-valid.ensures in
     let e = layout-by _ (kind-told _ c.in-Primitive.ensures refl) in
     blocks-stored _ _ p.ready q _ e _ c.take_native.ensures
 
 pub take_boolean-requires-clause-holds_bits : goal.take_boolean-requires-clause-holds_bits
 take_boolean-requires-clause-holds_bits c =
     let p = c.requires in
-    let q = picked _ _ p.ready p.validates p.nulls_value c.shown-valid.ensures in
+    let q = picked _ _ p.ready p.validates p.nulls c.shown-valid.ensures in
     let e = layout-by _ (kind-told _ c.in-Boolean.ensures refl) in
     data-held _ _ p.ready q e
 
-pub take_boolean-requires-clause-count_in_bounds : goal.take_boolean-requires-clause-count_in_bounds
-take_boolean-requires-clause-count_in_bounds c =
+pub take_boolean-requires-clause-room : goal.take_boolean-requires-clause-room
+take_boolean-requires-clause-room c =
     let p = c.requires in
-    let q = picked _ _ p.ready p.validates p.nulls_value c.shown-valid.ensures in
+    let q = picked _ _ p.ready p.validates p.nulls c.shown-valid.ensures in
     let e = layout-by _ (kind-told _ c.in-Boolean.ensures refl) in
     bits-room _ _ p.ready q e p.has_room.1
 
-pub returns-in-Boolean-clause-out_offsets_after : goal.returns-in-Boolean-clause-out_offsets_after
-returns-in-Boolean-clause-out_offsets_after c =
+pub returns-in-Boolean-clause-offsets_stored : goal.returns-in-Boolean-clause-offsets_stored
+returns-in-Boolean-clause-offsets_stored c =
     let p = c.requires in
-    let q = picked _ _ p.ready p.validates p.nulls_value c.shown-valid.ensures in
+    let q = picked _ _ p.ready p.validates p.nulls c.shown-valid.ensures in
     let e = layout-by _ (kind-told _ c.in-Boolean.ensures refl) in
     bits-keep _ _ p.ready q e _
 
-pub returns-in-Boolean-clause-out_data_after : goal.returns-in-Boolean-clause-out_data_after
-returns-in-Boolean-clause-out_data_after c =
+pub returns-in-Boolean-clause-data_stored : goal.returns-in-Boolean-clause-data_stored
+returns-in-Boolean-clause-data_stored c =
     let p = c.requires in
-    let q = picked _ _ p.ready p.validates p.nulls_value c.shown-valid.ensures in
+    let q = picked _ _ p.ready p.validates p.nulls c.shown-valid.ensures in
     let e = layout-by _ (kind-told _ c.in-Boolean.ensures refl) in
     bits-stored _ _ p.ready q e _ c.take_boolean.ensures
 
@@ -80,44 +80,44 @@ take_list-requires c =
 pub take_fixed_size_list_primitive-requires-clause-blocked : goal.take_fixed_size_list_primitive-requires-clause-blocked
 take_fixed_size_list_primitive-requires-clause-blocked c =
     let p = c.requires in
-    let q = picked _ _ p.ready p.validates p.nulls_value c.shown-valid.ensures in
+    let q = picked _ _ p.ready p.validates p.nulls c.shown-valid.ensures in
     let e = layout-by _ (kind-told _ c.in-FixedSizeList.ensures refl) in
     blocked _ _ p.ready q _ e p.has_room.1
 
-pub returns-in-FixedSizeList-clause-out_offsets_after : goal.returns-in-FixedSizeList-clause-out_offsets_after
-returns-in-FixedSizeList-clause-out_offsets_after c =
+pub returns-in-FixedSizeList-clause-offsets_stored : goal.returns-in-FixedSizeList-clause-offsets_stored
+returns-in-FixedSizeList-clause-offsets_stored c =
     let p = c.requires in
-    let q = picked _ _ p.ready p.validates p.nulls_value c.shown-valid.ensures in
+    let q = picked _ _ p.ready p.validates p.nulls c.shown-valid.ensures in
     let e = layout-by _ (kind-told _ c.in-FixedSizeList.ensures refl) in
     blocks-keep _ _ p.ready q _ e _
 
-pub returns-in-FixedSizeList-clause-out_data_after : goal.returns-in-FixedSizeList-clause-out_data_after
-returns-in-FixedSizeList-clause-out_data_after c =
+pub returns-in-FixedSizeList-clause-data_stored : goal.returns-in-FixedSizeList-clause-data_stored
+returns-in-FixedSizeList-clause-data_stored c =
     let p = c.requires in
-    let q = picked _ _ p.ready p.validates p.nulls_value c.shown-valid.ensures in
+    let q = picked _ _ p.ready p.validates p.nulls c.shown-valid.ensures in
     let e = layout-by _ (kind-told _ c.in-FixedSizeList.ensures refl) in
     blocks-stored _ _ p.ready q _ e _ c.take_fixed_size_list_primitive.ensures
 
 pub take_fixed_size_binary-requires-clause-blocked : goal.take_fixed_size_binary-requires-clause-blocked
 take_fixed_size_binary-requires-clause-blocked c =
     let p = c.requires in
-    let q = picked _ _ p.ready p.validates p.nulls_value c.shown-valid.ensures in
+    let q = picked _ _ p.ready p.validates p.nulls c.shown-valid.ensures in
     let d = c.in_default in
     let e = layout-by _ (sixth _ p.ready.column c.kind_of-kind.ensures d.not-Primitive d.not-Boolean d.not-VariableBytes d.not-List d.not-FixedSizeList) in
     blocked _ _ p.ready q _ e p.has_room.1
 
-pub returns-in_default-clause-out_offsets_after : goal.returns-in_default-clause-out_offsets_after
-returns-in_default-clause-out_offsets_after c =
+pub returns-in_default-clause-offsets_stored : goal.returns-in_default-clause-offsets_stored
+returns-in_default-clause-offsets_stored c =
     let p = c.requires in
-    let q = picked _ _ p.ready p.validates p.nulls_value c.shown-valid.ensures in
+    let q = picked _ _ p.ready p.validates p.nulls c.shown-valid.ensures in
     let d = c.in_default in
     let e = layout-by _ (sixth _ p.ready.column c.kind_of-kind.ensures d.not-Primitive d.not-Boolean d.not-VariableBytes d.not-List d.not-FixedSizeList) in
     blocks-keep _ _ p.ready q _ e _
 
-pub returns-in_default-clause-out_data_after : goal.returns-in_default-clause-out_data_after
-returns-in_default-clause-out_data_after c =
+pub returns-in_default-clause-data_stored : goal.returns-in_default-clause-data_stored
+returns-in_default-clause-data_stored c =
     let p = c.requires in
-    let q = picked _ _ p.ready p.validates p.nulls_value c.shown-valid.ensures in
+    let q = picked _ _ p.ready p.validates p.nulls c.shown-valid.ensures in
     let d = c.in_default in
     let e = layout-by _ (sixth _ p.ready.column c.kind_of-kind.ensures d.not-Primitive d.not-Boolean d.not-VariableBytes d.not-List d.not-FixedSizeList) in
     blocks-stored _ _ p.ready q _ e _ c.take_fixed_size_binary.ensures
