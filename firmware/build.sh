@@ -73,11 +73,11 @@ check_same() {
     measure "$dir"
 }
 
-# Everything that functions of the module are made of means the same on every core: integers to 64 bits, addresses that are no numbers, branches, calls. So no
-# vector, no float, no variable, no code of a processor. Prints what else there is; nothing, if the module is portable.
+# Everything that functions of the module are made of means the same on every core: integers to 64 bits, addresses that are no numbers, branches, calls, pairs
+# of these as results. So no vector, no float, no variable, no code of a processor. Prints what else there is; nothing, if the module is portable.
 unportable() { # MODULE
-    local same=(add align alloca and br call define eq false getelementptr i1 i8 i16 i32 i64 icmp inbounds internal label load lshr mul ne noundef nuw or ptr ret shl
-        store sub switch to true trunc udiv ule ult unreachable urem void x xor zeroext zext)
+    local same=(add align alloca and br call define eq extractvalue false getelementptr i1 i8 i16 i32 i64 icmp inbounds internal label load lshr mul ne noundef null nuw or ptr
+        ret shl store sub switch to true trunc udiv ule ult unreachable urem void x xor zeroext zext)
     sed -n '/^define /,/^}/p' "$1" | sed -e 's/;.*//' -e 's/[@%]"[^"]*"//g' -e 's/[@%!][A-Za-z0-9_.]*//g' -e 's/^[a-z]*\(\.[0-9]*\)\{0,1\}:.*//' |
         grep -oE '[A-Za-z_][A-Za-z0-9_]*|[^][A-Za-z0-9_ #(),.:={}-]' | sort -u | grep -vxF "$(printf '%s\n' "${same[@]}")" || true
     grep -E '^@' "$1" || true
