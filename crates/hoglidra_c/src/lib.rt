@@ -1,6 +1,6 @@
-// What C links to gather a column (layer 6): the symbol `hoglidra_take`, which promises what `hoglidra::export::hoglidra_take` does, and calls it. No crate can
-// use a static library, so it is a crate of its own; so is that of several columns, and an object of the archive each: a stage with two callers would be
-// inlined into neither, and whoever gathers single columns alone links no more than that.
+// What C links to gather a column (layer 6): the symbol `hoglidra_take`, which promises what `hoglidra::export::hoglidra_take` does, and calls it. A slice is a
+// pointer and a length there. No crate can use a static library, so it is a crate of its own; so is that of several columns, and an object of the archive
+// each: a stage with two callers would be inlined into neither, and whoever gathers single columns alone links no more than that.
 #![tactic(auto)]
 
 ghost use Rattle.tables.specs.Columns.{column_at, index_column_at, description, index_description};

@@ -204,7 +204,7 @@ fn lend(
     )
 }
 
-// The arrays are lent whole, since parts are proved of slices with less.
+// The arrays are lent whole, and cut where they are used.
 fn lend_filled(line: &[u8], tail: &[u8], more: usize) -> Verdict
     requires { more ≤ 16 }
 {

@@ -20,7 +20,7 @@ use text::{field, find};
 // Runs a published answer, and counts it where zeros were put below its nulls.
 fn step_published(
     rt: &impl Print,
-    name: &str,
+    name: &[u8],
     text: &[u8],
     number: u64,
     tally: Tally,
@@ -37,7 +37,7 @@ fn step_published(
 // Takes in a line: an empty one, a comment, or a case.
 fn step(
     rt: &impl Print,
-    name: &str,
+    name: &[u8],
     text: &[u8],
     number: u64,
     published: bool,
@@ -56,7 +56,7 @@ fn step(
     tell(rt, name, number, verdict, tally)
 }
 
-fn run_text(rt: &impl Print, name: &str, text: &[u8], published: bool) -> io::Result<()> {
+fn run_text(rt: &impl Print, name: &[u8], text: &[u8], published: bool) -> io::Result<()> {
     let mut tally = Tally {
         cases: 0,
         differ: 0,
@@ -81,13 +81,13 @@ const MOST_TEXT: usize = 262144;
 
 fn run_file<R: Files + Alloc + Print>(rt: &R, name: &str, published: bool) -> io::Result<()> {
     let Ok(text) = fs::read(rt, name) else {
-        return not_read(rt, name);
+        return not_read(rt, name.as_bytes());
     };
     let end = text.len();
     if (end == 0) | (MOST_TEXT <= end) {
-        return not_read(rt, name);
+        return not_read(rt, name.as_bytes());
     }
-    run_text(rt, name, text.as_slice(), published)
+    run_text(rt, name.as_bytes(), text.as_slice(), published)
 }
 
 fn main(rt: HostRuntime) -> io::Result<()> {

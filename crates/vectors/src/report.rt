@@ -10,8 +10,8 @@ pub struct Tally {
     pub zeroed: [u64; 7],
 }
 
-fn write(rt: &impl Print, text: &str) -> io::Result<()> {
-    rt.print(text)
+fn write(rt: &impl Print, text: &[u8]) -> io::Result<()> {
+    rt.write_all(text)
 }
 
 fn write_number(rt: &impl Print, number: u64) -> io::Result<()> {
@@ -20,32 +20,32 @@ fn write_number(rt: &impl Print, number: u64) -> io::Result<()> {
 
 fn write_name_of_number(rt: &impl Print, which: u64) -> io::Result<()> {
     match which {
-        0 => write(rt, "number"),
-        1 => write(rt, "place"),
-        2 => write(rt, "total"),
-        _ => write(rt, "nulls"),
+        0 => write(rt, b"number"),
+        1 => write(rt, b"place"),
+        2 => write(rt, b"total"),
+        _ => write(rt, b"nulls"),
     }
 }
 
 fn write_name_of_output(rt: &impl Print, which: u64) -> io::Result<()> {
     match which {
-        1 => write(rt, "validity"),
-        2 => write(rt, "offsets"),
-        3 => write(rt, "data"),
-        _ => write(rt, "answer's tail"),
+        1 => write(rt, b"validity"),
+        2 => write(rt, b"offsets"),
+        3 => write(rt, b"data"),
+        _ => write(rt, b"answer's tail"),
     }
 }
 
 fn write_verdict(rt: &impl Print, verdict: Verdict) -> io::Result<()> {
     match verdict {
-        Verdict::Alike => write(rt, "alike"),
-        Verdict::Unreadable => write(rt, "not a case"),
-        Verdict::NullBytes => write(rt, "a null row of the published answer has bytes"),
+        Verdict::Alike => write(rt, b"alike"),
+        Verdict::Unreadable => write(rt, b"not a case"),
+        Verdict::NullBytes => write(rt, b"a null row of the published answer has bytes"),
         Verdict::Number { which, got, want } => {
             write_name_of_number(rt, which)?;
-            write(rt, " ")?;
+            write(rt, b" ")?;
             write_number(rt, got)?;
-            write(rt, ", and should be ")?;
+            write(rt, b", and should be ")?;
             write_number(rt, want)
         }
         Verdict::Byte {
@@ -55,11 +55,11 @@ fn write_verdict(rt: &impl Print, verdict: Verdict) -> io::Result<()> {
             want,
         } => {
             write_name_of_output(rt, which)?;
-            write(rt, " has at ")?;
+            write(rt, b" has at ")?;
             write_number(rt, at)?;
-            write(rt, " the byte ")?;
+            write(rt, b" the byte ")?;
             write_number(rt, got as u64)?;
-            write(rt, ", and should have ")?;
+            write(rt, b", and should have ")?;
             write_number(rt, want as u64)
         }
     }
@@ -68,7 +68,7 @@ fn write_verdict(rt: &impl Print, verdict: Verdict) -> io::Result<()> {
 // Counts a case that was run, and writes what differs if it is the first that does.
 pub fn tell(
     rt: &impl Print,
-    name: &str,
+    name: &[u8],
     line: u64,
     verdict: Verdict,
     tally: Tally,
@@ -84,11 +84,11 @@ pub fn tell(
     }
     if tally.differ == 0 {
         write(rt, name)?;
-        write(rt, ", line ")?;
+        write(rt, b", line ")?;
         write_number(rt, line)?;
-        write(rt, ": ")?;
+        write(rt, b": ")?;
         write_verdict(rt, verdict)?;
-        write(rt, "\n")?;
+        write(rt, b"\n")?;
     }
     Ok(Tally {
         cases,
@@ -112,33 +112,33 @@ pub fn count_zeroed(kind: u64, tally: Tally) -> Tally {
 }
 
 // Says how many published answers of each kind were compared with zeros in place of what was published below nulls.
-fn print_zeroed(rt: &impl Print, name: &str, tally: Tally) -> io::Result<()> {
+fn print_zeroed(rt: &impl Print, name: &[u8], tally: Tally) -> io::Result<()> {
     let zeroed = tally.zeroed;
     write(rt, name)?;
     write(
         rt,
-        ": zeros in place of bytes below nulls, in answers of kinds 1, 2, 5 and 6: ",
+        b": zeros in place of bytes below nulls, in answers of kinds 1, 2, 5 and 6: ",
     )?;
     write_number(rt, zeroed[1])?;
-    write(rt, ", ")?;
+    write(rt, b", ")?;
     write_number(rt, zeroed[2])?;
-    write(rt, ", ")?;
+    write(rt, b", ")?;
     write_number(rt, zeroed[5])?;
-    write(rt, ", ")?;
+    write(rt, b", ")?;
     write_number(rt, zeroed[6])?;
-    write(rt, "\n")
+    write(rt, b"\n")
 }
 
-pub fn print_tally(rt: &impl Print, name: &str, published: bool, tally: Tally) -> io::Result<()> {
+pub fn print_tally(rt: &impl Print, name: &[u8], published: bool, tally: Tally) -> io::Result<()> {
     write(rt, name)?;
-    write(rt, ": ")?;
+    write(rt, b": ")?;
     write_number(rt, tally.cases)?;
     if tally.differ == 0 {
-        write(rt, " cases, all alike\n")?;
+        write(rt, b" cases, all alike\n")?;
     } else {
-        write(rt, " cases, of which ")?;
+        write(rt, b" cases, of which ")?;
         write_number(rt, tally.differ)?;
-        write(rt, " differ\n")?;
+        write(rt, b" differ\n")?;
     }
     if published {
         print_zeroed(rt, name, tally)?;
@@ -146,7 +146,7 @@ pub fn print_tally(rt: &impl Print, name: &str, published: bool, tally: Tally) -
     Ok(())
 }
 
-pub fn not_read(rt: &impl Print, name: &str) -> io::Result<()> {
+pub fn not_read(rt: &impl Print, name: &[u8]) -> io::Result<()> {
     write(rt, name)?;
-    write(rt, ": missing, empty or too long\n")
+    write(rt, b": missing, empty or too long\n")
 }
