@@ -7,14 +7,7 @@ use lib.ListN.{length, take, drop, length-drop}
 use lib.Seq.{length-take-le, drop-drop, take-append-add, drop-append-add}
 use Rattle.bits.specs.Bytes.{part, overwrite}
 use Rattle.bits.specs.Routines.{overwrite_at}
-use Rattle.bits.specs.Numbers.{little_endian, to_little_endian}
-use Rattle.bits.proofs.Numbers.{AllBytes, to_little_endian-part}
 use Rattle.bits.proofs.Copies.{copied_more, copied-also}
-
--- the number that was read at p of s, written at p, carries the bytes over
-carried : (w p : ℕ) (s : List ℕ) {x : ℕ} (out : List ℕ) {y : List ℕ} → AllBytes s → p + w ≤ length s → x ≡ little_endian (part p w s)
-    → y ≡ overwrite_at p (to_little_endian w x) out → y ≡ overwrite_at p (part p w s) out
-carried w p s out b h e d = d ∙ ap (λ (t : List ℕ). overwrite_at p t out) (ap (to_little_endian w) e ∙ to_little_endian-part w p s b h)
 
 -- what is written k bytes after the first p is written k bytes into the rest
 overwrite_at-after : (p k : ℕ) (e a t : List ℕ) → length a ≡ p → overwrite_at (p + k) e (a ++ t) ≡ a ++ overwrite_at k e t
@@ -24,22 +17,20 @@ overwrite_at-after p k e a t l =
     ∙ append_assoc a (take k t) (overwrite e (drop k t)))
 
 -- the w bytes at the front of n and the w bytes at their end are all of them
-pub ends : (w p n : ℕ) (s d : List ℕ) {x x' : ℕ} {y z : List ℕ} → AllBytes s → (w ≤ n) × (n ≤ w + w) → p + n ≤ length s → p ≤ length d
-    → x ≡ little_endian (part p w s) → x' ≡ little_endian (part (p + (n - w)) w s)
-    → y ≡ overwrite_at p (to_little_endian w x) d → z ≡ overwrite_at (p + (n - w)) (to_little_endian w x') y
+pub ends : (w p n : ℕ) (s d : List ℕ) {a b y z : List ℕ} → (w ≤ n) × (n ≤ w + w) → p + n ≤ length s → p ≤ length d
+    → a ≡ part p w s → b ≡ part (p + (n - w)) w s → y ≡ overwrite_at p a d → z ≡ overwrite_at (p + (n - w)) b y
     → z ≡ overwrite_at p (part p n s) d
-ends w p n s d {y = y} b h l m e e' i i' =
+ends w p n s d {y = y} h l m e f front i =
     let k : ℕ = n - w in
     let r : List ℕ = drop p s in
     let t : List ℕ = drop p d in
     let long : length r ≡ length s - p = length-drop p s in
-    let front : y ≡ take p d ++ overwrite (take w r) t = carried w p s d b (omega arith) e i in
     let after : part (p + k) w s ≡ part k w r = ap (take w) (sym (drop-drop k p s)) in
     let all : k + w ≡ n = omega arith in
     let both : overwrite_at k (part k w r) (overwrite (take w r) t) ≡ overwrite (take (k + w) r) t =
     copied_more w k w r t {out = overwrite (take w r) t} (omega arith) (omega arith) (omega arith) refl refl in
-    carried w (p + k) s y b (omega arith) e' i'
-    ∙ rw (front, after) (overwrite_at-after p k (part k w r) (take p d) (overwrite (take w r) t) (length-take-le p d m) ∙ ap (λ (f : List ℕ). take p d ++ f) (both ∙ ap (λ (f : ℕ). overwrite (take f r) t) all))
+    i
+    ∙ rw (f, front, e, after) (overwrite_at-after p k (part k w r) (take p d) (overwrite (take w r) t) (length-take-le p d m) ∙ ap (λ (f : List ℕ). take p d ++ f) (both ∙ ap (λ (f : ℕ). overwrite (take f r) t) all))
 
 -- four times m bytes, at the front of n, at their end, and each as far from there as q
 pub four : (m q n : ℕ) (s d : List ℕ) {a b e y : List ℕ} → (m < n) × (n ≤ m + m + (m + m)) → n ≤ length s → q ≡ m - (m - (n - m))

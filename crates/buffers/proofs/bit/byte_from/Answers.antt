@@ -10,7 +10,7 @@ returns-then-shift-left-le8 c =
     let h : a.q + 1 ≤ length a.src.now = omega arith in
     let l : a.q < length a.src.now = omega arith in
     c.lowest.ensures
-    ∙ ap (λ (y : ℕ). y / 2 ^ a.shift % 2 ^ a.left % 256) (c.wide.ensures.0 ∙ sym (little_endian-byte a.q a.src.now l))
+    ∙ ap (λ (y : ℕ). y / 2 ^ a.shift % 2 ^ a.left % 256) (c.from.ensures ∙ sym (little_endian-byte a.q a.src.now l))
     ∙ byte-window 1 a.q a.shift a.left a.src.now c.type_inv.src h (λ j m k. omega (arith, c.if-shift-left-le8.true))
 
 pub returns : goal.returns

@@ -20,4 +20,4 @@ returns c =
     let h : a.q + 9 ≤ length a.src.now = omega arith in
     let l : a.shift < 64 = omega arith in
     packed-window 8 9 a.q a.shift _ a.src.now g h (omega (arith, c.requires))
-    (joined_word a.q a.shift c.read_u64-y.result c.wide-next.result a.src.now g h l c.read_u64-y.ensures c.wide-next.ensures.0)
+    (joined_word a.q a.shift c.read_u64-y.result c.from-next.result a.src.now g h l c.read_u64-y.ensures c.from-next.ensures)

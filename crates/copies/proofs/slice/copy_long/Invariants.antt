@@ -1,10 +1,7 @@
--- The first k bytes are copied.
-use Rattle.std.proofs.Common.{◌-◌, ◌≡◌, ◌≤◌, take}
+-- The first i turns are copied.
+use Rattle.std.proofs.Common.{◌≡◌, ◌*◌, take}
 use Rattle.bits.specs.Bytes.{overwrite}
 use Rattle.copies.proofs.slice.copy_long.Given as goal
 
-abbrev pub invariant-loop-k : goal.invariant-loop-k
-invariant-loop-k l = record { within : l.k ≤ l.n; copied : l.dst ≡ overwrite (take l.k l.src) l.fn.dst }
-
-abbrev pub decreases-loop-k : goal.decreases-loop-k
-decreases-loop-k l = l.n - l.k
+abbrev pub invariant-loop-i : goal.invariant-loop-i
+invariant-loop-i l = record { copied : l.dst ≡ overwrite (take (l.i * 64) l.src) l.fn.dst }

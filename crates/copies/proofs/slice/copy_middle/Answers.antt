@@ -1,8 +1,13 @@
 -- The four meet, since there are no more bytes than they have.
 use Rattle.copies.proofs.Pieces.{four}
 use Rattle.copies.proofs.slice.copy_middle.Goals as goal
+use Rattle.std.proofs.Common.{ℕ, List, ap, ◌∙◌, length, arith}
+use Rattle.std.proofs.Math.Seq.{take-length}
+use Rattle.bits.specs.Bytes.{overwrite}
 
 pub returns : goal.returns
 returns c =
-    four 16 _ c.args.n c.args.src.now c.args.dst.now (c.requires.0, c.requires.1) c.requires.2 c.lesser-second.ensures
+    let s = c.args.src.now in
+    four 16 _ (length s) s c.args.dst.now (c.requires.0, c.requires.1) (omega arith) (omega arith)
     c.copy_ends.ensures c.copy_ends-2.ensures c.copy_ends-3.ensures c.copy_ends-4.ensures
+    ∙ ap (λ (t : List ℕ). overwrite t c.args.dst.now) (take-length s)
