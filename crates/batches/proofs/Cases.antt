@@ -8,7 +8,7 @@ use lib.Dec.{leb}
 use borrow.Author.Tests.{eqb-true, eq-eqb, ne_eqb}
 use Rattle.tables.specs.declared.refusal.Answer.{Answer}
 use Rattle.tables.specs.Columns.{Column, IndexColumn}
-use Rattle.tables.specs.Answers.{passes, Line, lines_of, first_of}
+use Rattle.tables.specs.Answers.{passes, lines_of, first_of}
 use Rattle.tables.specs.Cases.{line_at, FirstMet, CaseOf}
 use Rattle.gathers.specs.Stored.{Output, lent_lengths, joined_lengths, store_joined}
 use Rattle.gathers.specs.Gather.{space_lines, through_lines, Outcome}

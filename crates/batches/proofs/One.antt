@@ -1,17 +1,17 @@
 -- A batch of one column is that column's gather, answer and all. Assumes nothing.
 use mathlib.Core.Path.{◌≡◌, refl, sym, ap, ◌∙◌}
-use mathlib.Core.Bool.{Bool, false, cond}
+use mathlib.Core.Bool.{Bool, false}
 use Prim.Native.Nat.{ℕ}
 use native.Mathlib.Nat.{zero-add}
 use borrow.Author.Tests.{eq-eqb}
 use Rattle.tables.specs.declared.refusal.Answer.{Answer}
 use Rattle.tables.specs.declared.table.Lengths.{Lengths}
 use Rattle.tables.specs.Columns.{Column, IndexColumn}
-use Rattle.tables.specs.Answers.{accept, passes, first_of}
+use Rattle.tables.specs.Answers.{accept, first_of}
 use Rattle.tables.specs.Stages.{◌or_else◌}
 use Rattle.tables.specs.Rows.{Rows}
 use Rattle.gathers.specs.Stored.{Output, data_length, needed_lengths, lent_lengths, null_count, store, joined_lengths, store_joined}
-use Rattle.gathers.specs.Gather.{space_lines, through_lines, refusals, Outcome, gathered, gather}
+use Rattle.gathers.specs.Gather.{space_lines, through_lines, refusals, gathered, gather}
 use Rattle.batches.specs.Batch.{Batch, batch_of, taken_from, batch_lines, arrays_refusals, gathered_all, gather_arrays}
 use Rattle.gathers.proofs.Stages.{by-space, space_refusal-lines}
 use Rattle.batches.proofs.Refused.{by-stages}

@@ -1,12 +1,12 @@
 -- What a batch is whose tests let pass (specs/Passed.antt). Assumes nothing.
-use mathlib.Core.Path.{◌≡◌, refl, sym, ap, ◌∙◌}
+use mathlib.Core.Path.{◌≡◌, refl, sym, ◌∙◌}
 use mathlib.Core.Bool.{Bool, true, false, not, true≢false}
-use Prim.Native.Nat.{ℕ, ◌+◌, ◌*◌, ◌≤◌, ◌<◌}
+use Prim.Native.Nat.{ℕ, ◌≤◌, ◌<◌}
 use native.Mathlib.Omega.{arith}
 use lib.Dec.{eqb, ltb}
 use lib.ListN.{length}
 use borrow.Author.Tests.{ltb-false, eqb-true, eq-eqb}
-use Rattle.bits.specs.Sequences.{sum, any}
+use Rattle.bits.specs.Sequences.{sum}
 use Rattle.tables.specs.declared.table.Lengths.{Lengths}
 use Rattle.tables.specs.Columns.{IndexColumn}
 use Rattle.tables.specs.Answers.{passes, first_of}
@@ -14,8 +14,8 @@ use Rattle.tables.specs.Cases.{line_at}
 use Rattle.tables.specs.Rows.{Rows}
 use Rattle.gathers.specs.Stored.{Output, validity_bytes, written_offsets, validity_length, offset_length, data_length, lent_lengths, joined_lengths}
 use Rattle.gathers.specs.Gather.{space_lines, through_lines}
-use Rattle.gathers.specs.Ready.{InRange, Ready, NoOverflow}
-use Rattle.batches.specs.Batch.{Batch, max_columns, taken_from, rows_differ, batch_lines}
+use Rattle.gathers.specs.Ready.{Ready, NoOverflow}
+use Rattle.batches.specs.Batch.{Batch, max_columns, taken_from, batch_lines}
 use Rattle.batches.specs.Passed.{Passed}
 use Rattle.bits.proofs.Tests.{or-false, not-false}
 use Rattle.bits.proofs.Sequences.{any_none}
@@ -38,9 +38,6 @@ module _ (b : Batch) (e : passes (first_of (batch_lines b)) ≡ true) where
 
   pub few-columns : b.count ≤ max_columns
   few-columns = ltb-false max_columns b.count counted.1
-
-  pub all-described : b.short ≡ false
-  all-described = met 1
 
   pub rows-equal : (i : ℕ) → i < b.count → (b.column i).table.rows ≡ (b.column 0).table.rows
   rows-equal i h =

@@ -1,6 +1,6 @@
 -- The answer of a batch stage by stage, as code goes: the tests of the batch, the columns through overflow, space. Assumes nothing.
-use mathlib.Core.Path.{◌≡◌, refl, ap}
-use mathlib.Core.Bool.{Bool, true, false}
+use mathlib.Core.Path.{◌≡◌, refl}
+use mathlib.Core.Bool.{true, false}
 use mathlib.Core.List.{List, ◌++◌}
 use Prim.Native.Nat.{ℕ, ◌<◌}
 use Rattle.tables.specs.declared.refusal.Answer.{Answer}
@@ -11,7 +11,7 @@ use Rattle.tables.specs.Stages.{◌or_else◌}
 use Rattle.bits.specs.Sequences.{sum}
 use Rattle.tables.specs.Rows.{Rows}
 use Rattle.gathers.specs.Stored.{Output, lent_lengths, data_length, null_count, joined_lengths, store_joined}
-use Rattle.gathers.specs.Gather.{space_lines, through_lines, Outcome}
+use Rattle.gathers.specs.Gather.{space_lines, through_lines}
 use Rattle.batches.specs.Batch.{Batch, taken_from, batch_lines, arrays_refusals, gathered_all, gather_arrays}
 use Rattle.batches.specs.Passed.{Passed}
 use Rattle.tables.proofs.Lines.{first_of-append, refusing-append, lines-refusing, lines-passed, lines-pass, lines-refused, or_else-passes}

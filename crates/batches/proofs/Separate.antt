@@ -1,9 +1,9 @@
 -- A batch that is gathered holds what separate gathers write: column k's part of the joined outputs is exactly what its own gather writes into outputs of
 -- that size, total and nulls are the sums of the separate answers, and the bytes after the joined parts are kept. Assumes nothing.
-use mathlib.Core.Path.{◌≡◌, refl, sym, ap, ◌∙◌}
+use mathlib.Core.Path.{◌≡◌, sym, ap, ◌∙◌}
 use mathlib.Core.Bool.{true, false}
 use mathlib.Core.List.{List, [], ◌++◌, append-nil}
-use Prim.Native.Nat.{ℕ, suc, ◌+◌, ◌≤◌, ◌<◌}
+use Prim.Native.Nat.{ℕ, suc, ◌≤◌, ◌<◌}
 use native.Mathlib.Nat.{le_of_eq}
 use native.Mathlib.Omega.{arith}
 use lib.Dec.{ltb}
@@ -12,11 +12,10 @@ use borrow.Author.Tests.{le-ltb}
 use Rattle.bits.specs.Sequences.{concat, sum}
 use Rattle.bits.specs.Bytes.{part, overwrite}
 use Rattle.tables.specs.declared.refusal.Answer.{Answer}
-use Rattle.tables.specs.declared.table.Lengths.{Lengths}
-use Rattle.tables.specs.Columns.{Column, IndexColumn}
+use Rattle.tables.specs.Columns.{IndexColumn}
 use Rattle.tables.specs.Answers.{passes, first_of}
 use Rattle.tables.specs.Rows.{Rows}
-use Rattle.gathers.specs.Stored.{Output, validity_bytes, written_offsets, data_bytes, validity_length, offset_length, data_length, needed_lengths, lent_lengths, null_count, store, joined_lengths, store_joined}
+use Rattle.gathers.specs.Stored.{Output, validity_bytes, written_offsets, data_bytes, validity_length, offset_length, data_length, needed_lengths, lent_lengths, store, joined_lengths, store_joined}
 use Rattle.gathers.specs.Gather.{space_lines, refusals, Outcome, gathered, gather}
 use Rattle.batches.specs.Batch.{Batch, taken_from, arrays_refusals, gathered_all, gather_arrays}
 use Rattle.batches.specs.Separate.{part_of, after_of}

@@ -1,8 +1,10 @@
 // The buffers of a column, as parts of the body that they lie in. Every number of an extent may be any, and its end may be past what 64 bits hold: it is
 // added up only once it is known to lie in the body.
 ghost use Rattle.std.specs.Prelude.{◌≡◌, true, false, if◌then◌else◌, [], length};
-ghost use Rattle.tables.specs.Bodies.{extent_of, is_cut, some_cut};
+ghost use Rattle.tables.specs.Columns.{column_of};
+ghost use Rattle.tables.specs.Bodies.{extent_of, is_cut, some_cut, column_by};
 
+use tables::column::Column;
 use tables::table::{Description, Extent, Uses};
 
 fn is_cut(bytes: u64, extent: Extent) -> bool
@@ -23,7 +25,7 @@ pub fn some_cut(uses: Uses, bytes: u64, d: Description) -> bool
 }
 
 // The bytes of an extent. An empty one may start anywhere, also past the body.
-pub fn buffer<'a>(body: &'a [u8], extent: Extent) -> &'a [u8]
+fn buffer<'a>(body: &'a [u8], extent: Extent) -> &'a [u8]
     requires { is_cut (length body.now) extent ≡ false }
     ensures { result.now ≡ extent_of body.now extent }
 {
@@ -36,7 +38,7 @@ pub fn buffer<'a>(body: &'a [u8], extent: Extent) -> &'a [u8]
 }
 
 // Offsets that the kind does not use are none, whatever is stated of them.
-pub fn offsets_buffer<'a>(uses: Uses, body: &'a [u8], extent: Extent) -> &'a [u8]
+fn offsets_buffer<'a>(uses: Uses, body: &'a [u8], extent: Extent) -> &'a [u8]
     requires { uses.offset_width ≡ true → is_cut (length body.now) extent ≡ false }
     ensures { result.now ≡ (if uses.offset_width then extent_of body.now extent else []) }
 {
@@ -44,4 +46,17 @@ pub fn offsets_buffer<'a>(uses: Uses, body: &'a [u8], extent: Extent) -> &'a [u8
         return buffer(body, extent);
     }
     &body[0..0]
+}
+
+// The column that d describes. None of the buffers that its kind uses may end past the body.
+pub fn column_in<'a>(uses: Uses, body: &'a [u8], d: Description) -> Column<'a>
+    requires { some_cut uses (length body.now) d ≡ false }
+    ensures { column_of result ≡ column_by uses body.now d }
+{
+    Column {
+        table: d.table,
+        data: buffer(body, d.data),
+        offsets: offsets_buffer(uses, body, d.offsets),
+        validity: buffer(body, d.validity),
+    }
 }

@@ -1,9 +1,9 @@
 -- What the stages of one column of several say: past refusal 6 its tests through overflow let pass, its lengths are small enough to be added up, and the
 -- last offset that is written tells its data bytes. Assumes nothing.
-use mathlib.Core.Path.{◌≡◌, refl, sym, ap, ◌∙◌, subst}
+use mathlib.Core.Path.{◌≡◌, refl, sym, ap, subst}
 use mathlib.Core.Bool.{Bool, true, false, not}
 use mathlib.Core.List.{List}
-use Prim.Native.Nat.{ℕ, suc, ◌*◌, ◌≤◌, ◌<◌}
+use Prim.Native.Nat.{ℕ, suc, ◌*◌, ◌≤◌}
 use native.Mathlib.Nat.{le_refl, le_trans, mul-le-mul, mul-one}
 use native.Mathlib.Omega.{arith}
 use lib.ListN.{length, drop}

@@ -5,7 +5,7 @@ use mathlib.Core.List.{[], ◌∷◌}
 use Prim.Native.Nat.{ℕ, ◌<◌}
 use lib.Dec.{leb, ltb}
 use Rattle.bits.specs.Sequences.{first}
-use Rattle.tables.specs.Columns.{Column, IndexColumn, index_valid, index}
+use Rattle.tables.specs.Columns.{Column, IndexColumn, index_valid}
 use Rattle.tables.specs.Answers.{refuse, passes, line, first_of}
 use Rattle.tables.specs.Stages.{form_refusal}
 use Rattle.tables.specs.Refusals.{index_refusal}

@@ -29,7 +29,6 @@ use Rattle.bits.proofs.Tests.{and-true}
 use Rattle.bits.proofs.Sequences.{sum-const, sum-le, sum_mono, sum-mul}
 use Rattle.tables.proofs.Facts.{formed, index-formed}
 use Rattle.tables.proofs.Offsets.{VariableFacts, variable-facts, below}
-use Rattle.tables.proofs.Rows.{variable-length}
 use Rattle.tables.proofs.Views.{rows_of-by, variable-kind-at}
 use Rattle.gathers.proofs.Stages.{no_overflow}
 use Rattle.gathers.proofs.ReadBack.{total-fits}
@@ -103,16 +102,6 @@ module _ (c : Column) (x : IndexColumn) where
     variable-inside i h = le_trans (mul-le-mul_right u (below u c ready-facts i h)) (div-mul-le_self (length c.«data») u)
 
     module _ (j : ℕ) (h : j < x.indices.count) where
-      pub taken-length : length (taken_bytes u c x j) ≡ taken_entries c x j * u
-      unfolding taken_bytes taken_entries
-      taken-length = go (taken_bit_valid c.validity c.table.validity_bit x j) refl
-        where
-          go : (t : Bool) → taken_bit_valid c.validity c.table.validity_bit x j ≡ t
-              → length (cond t (part (offset_at c (index x j) * u) ((offset_at c (suc (index x j)) - offset_at c (index x j)) * u) c.«data») [])
-              ≡ cond t (offset_at c (suc (index x j)) - offset_at c (index x j)) 0 * u
-          go true d = variable-length u c ready-facts (index x j) (taken-below j h d)
-          go false d = sym (zero-mul u)
-
       pub taken-small : taken_entries c x j * u ≤ max_bytes
       unfolding taken_entries
       taken-small = go (taken_bit_valid c.validity c.table.validity_bit x j) refl

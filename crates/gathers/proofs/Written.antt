@@ -1,7 +1,7 @@
 -- What was gathered is a column again, of exactly the bytes written (specs/Written.antt): it reads as the taken rows, and it is well-formed where its
 -- data is in the limit of a source. So a later call may take an output as its source. Assumes nothing.
 use mathlib.Core.Path.{◌≡◌, refl, sym, ap, ◌∙◌}
-use mathlib.Core.Bool.{Bool, true, false, not}
+use mathlib.Core.Bool.{true, false, not}
 use mathlib.Core.List.{List, [], append-nil}
 use Prim.Native.Nat.{ℕ, suc, ◌+◌, ◌*◌, ◌/◌, ◌≤◌}
 use native.Mathlib.Nat.{le_of_eq, mul-le-mul, mul-le-mul_left, mul-div_cancel}
@@ -10,7 +10,6 @@ use lib.Dec.{ltb}
 use lib.ListN.{length, drop}
 use borrow.Author.Tests.{le-ltb, lt-leb}
 use Rattle.bits.specs.Sequences.{sum}
-use Rattle.bits.specs.Bytes.{overwrite}
 use Rattle.bits.specs.Bits.{bytes_for, is_absent}
 use Rattle.tables.specs.declared.table.Kind.{Kind}
 use Rattle.tables.specs.declared.table.Layout.{Layout}

@@ -1,25 +1,11 @@
-// Kinds by their numbers, the fields that a kind uses, and its layout. Every number may be any.
+// The fields that a kind uses, its layout, and the widths that are listed. Every number may be any.
 ghost use Rattle.std.specs.Prelude.{◌≡◌};
-ghost use Rattle.tables.specs.Kinds.{kind_of, fields, uses_of, layout_of, is_width, is_offset_width, is_index_width};
+ghost use Rattle.tables.specs.Kinds.{fields, uses_of, layout_of, is_width, is_offset_width, is_index_width};
 ghost use Rattle.tables.specs.Bounds.{RowFits};
 
 use tables::table::{Kind, Layout, Table, Uses};
 
-#[tactic(auto, unfolding(tables::specs::Kinds::kind_of))]
-pub fn kind_of(number: u64) -> Kind
-    ensures { result ≡ kind_of number }
-{
-    match number {
-        1 => Kind::Primitive,
-        2 => Kind::Boolean,
-        3 => Kind::VariableBytes,
-        4 => Kind::List,
-        5 => Kind::FixedSizeList,
-        6 => Kind::FixedSizeBinary,
-        _ => Kind::Unknown,
-    }
-}
-
+// By position, so that each kind is a line of five marks below, as in the definition; with the names of the fields it would be seven.
 fn fields(known: bool, width: bool, size: bool, offset_width: bool, data_bit: bool) -> Uses
     ensures { result ≡ fields known width size offset_width data_bit }
 {
@@ -66,17 +52,17 @@ pub fn layout_of(kind: Kind, t: Table) -> Layout
 pub fn is_width(w: u64) -> bool
     ensures { result ≡ is_width w }
 {
-    (w == 1) | (w == 2) | (w == 4) | (w == 8) | (w == 16) | (w == 32)
+    matches!(w, 1 | 2 | 4 | 8 | 16 | 32)
 }
 
 pub fn is_offset_width(w: u64) -> bool
     ensures { result ≡ is_offset_width w }
 {
-    (w == 4) | (w == 8)
+    matches!(w, 4 | 8)
 }
 
 pub fn is_index_width(w: u64) -> bool
     ensures { result ≡ is_index_width w }
 {
-    (w == 1) | (w == 2) | (w == 4) | (w == 8)
+    matches!(w, 1 | 2 | 4 | 8)
 }

@@ -6,8 +6,8 @@ ghost use Rattle.tables.specs.Stages.{checked_numbers, stated_refusal};
 ghost use Rattle.tables.specs.Refusals.{max_rows, max_bit, bad_kind, used_over_limit, validity_over_limit, over_limit, data_short, validity_short, too_short, index_over_limit, index_too_short};
 ghost use Rattle.tables.specs.Bounds.{Bounds, IndexBounds};
 
-use kinds::kind::{is_index_width, is_offset_width, is_width, kind_of, layout_of, uses_of};
-use tables::refusal::{Checked, Refusal};
+use kinds::kind::{is_index_width, is_offset_width, is_width, layout_of, uses_of};
+use tables::refusal::Refusal;
 use tables::table::{IndexLengths, Indices, Kind, Layout, Lengths, Table};
 
 const MAX_ROWS: u64 = 1_048_576;
@@ -57,21 +57,13 @@ fn index_over_limit(x: Indices, n: IndexLengths) -> bool
     (x.count > MAX_ROWS) | (n.data > MAX_BYTES) | validity_over_limit(n.validity, x.validity_bit)
 }
 
-// The bytes that hold so many bits.
-fn bytes_for(bits: u64) -> u64
-    requires { bits ≤ max_bit + max_rows }
-    ensures { result ≡ bytes_for bits }
-{
-    (bits + 7) / 8
-}
-
 fn data_short(layout: Layout, t: Table, data: u64, offsets: u64) -> bool
     requires { Bounds layout t }
     ensures { result ≡ data_short layout t «data» offsets }
 {
     match layout {
         Layout::FixedWidth(n) => data < t.rows * n,
-        Layout::BitMap => data < bytes_for(t.data_bit + t.rows),
+        Layout::BitMap => data < (t.data_bit + t.rows).div_ceil(8),
         Layout::VariableWidth(_) => offsets < (t.rows + 1) * t.offset_width,
     }
 }
@@ -82,10 +74,7 @@ fn validity_short(bytes: u64, bit: u64, rows: u64) -> bool
     requires within_limit { validity_over_limit bytes bit ≡ false }
     ensures { result ≡ validity_short bytes bit rows }
 {
-    if bytes == 0 {
-        return false;
-    }
-    bytes < bytes_for(bit + rows)
+    bytes != 0 && bytes < (bit + rows).div_ceil(8)
 }
 
 fn too_short(layout: Layout, t: Table, n: Lengths) -> bool
@@ -106,25 +95,26 @@ fn index_too_short(x: Indices, n: IndexLengths) -> bool
 
 // Refusals 1, 2 and 3 of two descriptions with the lengths of their buffers; `cut` says that a buffer of the table ends past the slice that it lies in.
 // Each test is put to both before the next.
+#[tactic(auto, using(tables::proofs::Bounds::bounds), unfolding(tables::specs::Stages::stated_refusal))]
 pub fn check_sizes(
     table: Table,
     cut: bool,
     n: Lengths,
     indices: Indices,
     m: IndexLengths,
-) -> Checked
+) -> Result<(), Refusal>
     ensures { checked_numbers result ≡ stated_refusal table cut n indices m }
 {
-    let kind = kind_of(table.kind);
+    let kind = Kind::from(table.kind);
     if bad_kind(kind, table) | !is_index_width(indices.width) {
-        return Checked::Unfit(Refusal::Kind);
+        return Err(Refusal::Kind);
     }
     if over_limit(kind, table, n) | index_over_limit(indices, m) {
-        return Checked::Unfit(Refusal::Limit);
+        return Err(Refusal::Limit);
     }
     let layout = layout_of(kind, table);
     if cut | too_short(layout, table, n) | index_too_short(indices, m) {
-        return Checked::Unfit(Refusal::Short);
+        return Err(Refusal::Short);
     }
-    Checked::Fit
+    Ok(())
 }

@@ -1,6 +1,6 @@
 -- Columns whose buffers lie in a body, and the records that describe them (specs/Bodies.antt). Assumes nothing.
-use mathlib.Core.Path.{◌≡◌, refl, sym, ap, ◌∙◌}
-use mathlib.Core.Bool.{Bool, true, false, cond, not, ◌&&◌, ◌||◌}
+use mathlib.Core.Path.{◌≡◌, refl, sym, ap, fun_ext}
+use mathlib.Core.Bool.{Bool, true, false, cond, not}
 use mathlib.Core.List.{List, [], ◌++◌}
 use Prim.Native.Nat.{ℕ, ◌+◌, ◌-◌, ◌*◌, ◌≤◌, ◌<◌}
 use native.Mathlib.Omega.{arith}
@@ -9,16 +9,15 @@ use lib.ListN.{length, take, drop, replicate, length-append, length-drop, length
 use lib.Seq.{length-take-le, take-append-le}
 use borrow.Author.Tests.{ltb-true, ltb-false, lt-ltb, le-ltb, ne_eqb}
 use Rattle.bits.specs.Bytes.{part}
-use Rattle.bits.specs.Numbers.{little_endian}
+use Rattle.bits.specs.Numbers.{little_endian, number_at}
 use Rattle.tables.specs.declared.table.Table.{Table}
-use Rattle.tables.specs.declared.table.Uses.{Uses}
 use Rattle.tables.specs.declared.table.Extent.{Extent}
 use Rattle.tables.specs.declared.table.Description.{Description}
 use Rattle.tables.specs.Kinds.{kind_of, uses_of}
 use Rattle.tables.specs.Columns.{Column, lengths_of}
 use Rattle.tables.specs.Bodies.{extent, extent_of, is_cut, some_cut, column_in, record_words, record_bytes, word_at, described, described_at}
-use Rattle.bits.proofs.Numbers.{number_at-bytes}
-use Rattle.bits.proofs.Tests.{or-false, and-false-right, and_right}
+use Rattle.bits.proofs.Numbers.{number_at-bytes, number_at-from}
+use Rattle.bits.proofs.Tests.{and-false-right, and_right}
 
 -- ---- an extent
 
@@ -65,19 +64,6 @@ length-used : (t : Bool) (a : List ℕ) → length (cond t a []) ≡ cond t (len
 length-used true a = refl
 length-used false a = refl
 
-none-cut : (bytes : ℕ) (d : Description) (u : Uses) → some_cut u bytes d ≡ false
-    → (is_cut bytes d.«data» ≡ false) × (is_cut bytes d.validity ≡ false) × (u.offset_width ≡ true → is_cut bytes d.offsets ≡ false)
-none-cut bytes d u h =
-    let A : Bool = is_cut bytes d.«data» in
-    let B : Bool = is_cut bytes d.validity in
-    let C : Bool = is_cut bytes d.offsets in
-    let o : ((A || B) ≡ false) × ((u.offset_width && C) ≡ false) = or-false (A || B) (u.offset_width && C) h in
-    let p : (A ≡ false) × (B ≡ false) = or-false A B o.0 in
-    (p.0, p.1, λ t. used u.offset_width C t o.1)
-  where
-    used : (a b : Bool) → a ≡ true → (a && b) ≡ false → b ≡ false
-    used a b t e = rw t at e
-
 abbrev column_cut : Table → List ℕ → List ℕ → List ℕ → Bool → Column
 column_cut t a b v cut = record { table = t; «data» = a; offsets = b; validity = v; cut = cut }
 
@@ -101,29 +87,6 @@ module _ (s : List ℕ) (d : Description) where
   unfolding column_in
   column-stated = rw (length-extent s d.«data», length-used (uses_of (kind_of d.table.kind)).offset_width (extent_of s d.offsets), length-extent s d.offsets, length-extent s d.validity)
 
-  module _ (whole : (column_in s d).cut ≡ false) where
-    uncut : (is_cut (length s) d.«data» ≡ false) × (is_cut (length s) d.validity ≡ false)
-        × ((uses_of (kind_of d.table.kind)).offset_width ≡ true → is_cut (length s) d.offsets ≡ false)
-    uncut = none-cut (length s) d (uses_of (kind_of d.table.kind)) (sym column-cut ∙ whole)
-
-    -- of a column that is not cut no buffer is: its data,
-    pub uncut-data : is_cut (length s) d.«data» ≡ false
-    uncut-data = uncut.0
-
-    -- its validity,
-    pub uncut-validity : is_cut (length s) d.validity ≡ false
-    uncut-validity = uncut.1
-
-    -- and, where its kind uses them, its offsets
-    pub uncut-offsets : (uses_of (kind_of d.table.kind)).offset_width ≡ true → is_cut (length s) d.offsets ≡ false
-    uncut-offsets = uncut.2
-
-    -- lent by themselves, the buffers of a column that is not cut are that column
-    pub column-whole : {a b v : List ℕ} → a ≡ extent_of s d.«data» → b ≡ cond (uses_of (kind_of d.table.kind)).offset_width (extent_of s d.offsets) []
-        → v ≡ extent_of s d.validity → ◌≡◌ {A = Column} (record { table = d.table; «data» = a; offsets = b; validity = v; cut = false }) (column_in s d)
-    unfolding column_in
-    column-whole ea eb ev = rw (ea, eb, ev) (ap (column_cut d.table (extent_of s d.«data») (cond (uses_of (kind_of d.table.kind)).offset_width (extent_of s d.offsets) []) (extent_of s d.validity)) (sym whole))
-
 -- ---- records
 
 -- a word of a record, as it is read at its position
@@ -133,12 +96,14 @@ word_read s i j =
     let p : (i * record_words + j) * 8 ≡ i * record_bytes + j * 8 = omega arith in
     rw (← p) (number_at-bytes 8 s (i * record_words + j))
 
--- what a record describes, by its words
-pub described-words : (s : List ℕ) (i : ℕ) → described_at s i ≡ described (word_at s i)
-unfolding described_at
-described-words s i = refl
+-- the words of a record, read from its start
+pub described-part : (s : List ℕ) (i : ℕ) → described (number_at 8 (drop (i * record_bytes) s)) ≡ described_at s i
+unfolding described_at word_at
+described-part s i =
+    let p : i * record_bytes ≡ i * record_words * 8 = omega arith in
+    rw p (ap described (fun_ext (λ j. number_at-from 8 s (i * record_words) j)))
 
--- and as it is read: a table, and three extents at their words
+-- what a record describes, as it is read: a table, and three extents at their words
 pub described-read : (s : List ℕ) (i : ℕ) {t : Table} {a b v : Extent} → t ≡ (described_at s i).table → a ≡ extent (word_at s i 7) (word_at s i 8)
     → b ≡ extent (word_at s i 9) (word_at s i 10) → v ≡ extent (word_at s i 11) (word_at s i 12)
     → ◌≡◌ {A = Description} (record { table = t; «data» = a; offsets = b; validity = v }) (described_at s i)

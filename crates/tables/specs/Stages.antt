@@ -1,22 +1,25 @@
 -- What a stage answers, and refusals 1 to 4 as the two stages that test them, sizes and offsets.
-use Rattle.std.specs.Prelude.{Bool, if◌then◌else◌}
+use Rattle.std.specs.Prelude.{Bool, if◌then◌else◌, Result, Ok, Err}
 use Rattle.tables.specs.declared.table.Kind.{Kind}
 use Rattle.tables.specs.declared.table.Table.{Table}
 use Rattle.tables.specs.declared.table.Indices.{Indices}
 use Rattle.tables.specs.declared.table.Lengths.{Lengths}
 use Rattle.tables.specs.declared.table.IndexLengths.{IndexLengths}
 use Rattle.tables.specs.declared.refusal.Answer.{Answer}
-use Rattle.tables.specs.declared.refusal.Checked.{Checked}
-use Rattle.tables.specs.declared.refusal.Checked.TheVariants.{Fit, Unfit}
+use Rattle.tables.specs.declared.refusal.Refusal.{Refusal}
 use Rattle.tables.specs.Kinds.{kind_of, layout_of}
 use Rattle.tables.specs.Columns.{Column, IndexColumn, lengths_of, index_lengths_of, kind_at, layout_at}
 use Rattle.tables.specs.Answers.{accept, passes, refusal_numbers, first_of}
 use Rattle.tables.specs.Refusals.{table_form, indices_form, either, size_lines, offset_lines, form_lines}
 
--- the numbers of what a stage answers
-abbrev pub checked_numbers : Checked → Answer
-checked_numbers Fit = accept
-checked_numbers (Unfit r) = refusal_numbers r
+-- what a stage answers that tells nothing where it lets pass
+abbrev pub Checked : Type 0
+Checked = Result (Unit {0}) Refusal
+
+-- the numbers of what a stage answers, whatever it tells where it lets pass
+abbrev pub checked_numbers : {A : Type 0} → Result A Refusal → Answer
+checked_numbers (Ok a) = accept
+checked_numbers (Err r) = refusal_numbers r
 
 -- the first refusal of the two
 infixl 20 ◌or_else◌

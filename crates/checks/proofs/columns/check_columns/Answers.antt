@@ -1,18 +1,21 @@
 -- The answer of the two stages is that of the first that refuses.
-use Rattle.std.proofs.Common.{◌∙◌, false}
-use Rattle.tables.specs.Columns.{Column, IndexColumn}
-use Rattle.tables.proofs.Stages.{fit-sized, stage-refused, stage-passed, sized-bare, offsets-bare}
+use Rattle.std.proofs.Common.{sym, ap, ◌∙◌}
+use Rattle.tables.specs.Columns.{column_of, index_column_of}
+use Rattle.tables.specs.Stages.{checked_numbers}
+use Rattle.tables.proofs.Stages.{stage-refused, stage-passed, fit-sized}
 use Rattle.checks.proofs.columns.check_columns.Goals as goal
-
-pub returns-in_default : goal.returns-in_default
-returns-in_default c = stage-refused _ _ c.check_sizes-sizes.ensures c.in_default.is
 
 pub check_offsets-requires : goal.check_offsets-requires
 check_offsets-requires c =
-    let a = c.args in
-    let x : IndexColumn = record { indices = a.indices; «data» = a.index_data.now; validity = a.index_validity.now } in
-    let d : Column = record { table = a.table; «data» = a.«data».now; offsets = a.offsets.now; validity = a.validity.now; cut = false } in
-    sized-bare d (fit-sized d x c.check_sizes-sizes.ensures c.in-Fit.is)
+    let e = rw (c.lengths.ensures, c.lengths-2.ensures) at c.check_sizes-sizes.ensures in
+    fit-sized (column_of c.args.column.now) (index_column_of c.args.indices.now) e c.in_default.is
+
+pub returns-in_default : goal.returns-in_default
+returns-in_default c =
+    let e = rw (c.lengths.ensures, c.lengths-2.ensures) at c.check_sizes-sizes.ensures in
+    stage-passed (column_of c.args.column.now) (index_column_of c.args.indices.now) e c.in_default.is c.check_offsets.ensures
 
 pub returns : goal.returns
-returns c = stage-passed _ _ c.check_sizes-sizes.ensures c.in-Fit.is (c.check_offsets.ensures ∙ offsets-bare _)
+returns c =
+    let e = rw (c.lengths.ensures, c.lengths-2.ensures) at c.check_sizes-sizes.ensures in
+    sym (ap checked_numbers c.in-Err.is) ∙ stage-refused (column_of c.args.column.now) (index_column_of c.args.indices.now) e c.in-Err.is

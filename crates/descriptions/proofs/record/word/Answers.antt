@@ -1,7 +1,7 @@
--- The words of a record follow each other.
+-- A word is a number of 8 bytes.
 use Rattle.std.proofs.Common.{sym, ◌∙◌}
-use Rattle.tables.proofs.Bodies.{word_read}
+use Rattle.bits.proofs.Numbers.{number_at-bytes}
 use Rattle.descriptions.proofs.record.word.Goals as goal
 
 pub returns : goal.returns
-returns c = c.read_u64.ensures ∙ sym (word_read _ _ _)
+returns c = c.read_u64.ensures ∙ sym (number_at-bytes 8 _ _)

@@ -4,8 +4,8 @@ use Rattle.tables.proofs.Scans.{eight-tests}
 use Rattle.offsets.proofs.check.falls_in_eight.Goals as goal
 
 pub returns : goal.returns
-returns c =
-    eight-tests (number_at c.args.w c.args.offsets.now) c.args.i
+returns g c =
+    eight-tests (number_at g.row.W c.args.offsets.now) c.args.i
     c.offset_at-a.ensures
     c.offset_at-b.ensures
     c.offset_at-c.ensures
