@@ -1,23 +1,22 @@
 -- What a gather of bits reads, of the index column and of the source. Assumes nothing.
 use mathlib.Core.Path.{◌≡◌, refl, sym, ap, ◌∙◌}
-use mathlib.Core.Bool.{Bool, true, false, not, ◌&&◌, true≢false}
+use mathlib.Core.Bool.{Bool, true, false, ◌&&◌}
 use mathlib.Core.List.{List}
 use Prim.Native.Nat.{ℕ, ◌+◌, ◌*◌, ◌/◌, ◌%◌, ◌^◌, ◌≤◌, ◌<◌}
-use native.Mathlib.Nat.{mul-zero, mul-one, mul-le-mul_left, mul-le-mul_right}
+use native.Mathlib.Nat.{mul-zero, mul-one, mul-le-mul_right}
 use native.Mathlib.Omega.{arith}
 use lib.Bits.{bit_and, and_mask, and_le_r}
 use lib.Dec.{eqb, ltb}
 use lib.ListN.{length}
 use lib.Pow.{shl_exact}
 use borrow.Author.Tests.{lt-ltb, ltb-true, eqb-true, eqb-false}
-use Rattle.bits.specs.Numbers.{number_at, is_number_width}
+use Rattle.bits.specs.Bytes.{overwrite}
+use Rattle.bits.specs.Numbers.{number_at}
 use Rattle.bits.specs.Bits.{bit_value, bit_at, byte_of, pack, is_absent, valid_at}
 use Rattle.tables.specs.Columns.{IndexColumn, index_valid, index}
-use Rattle.tables.specs.Refusals.{max_rows}
 use Rattle.gathers.specs.Buffers.{taken_bit}
 use Rattle.gathers.specs.Ready.{InRange}
-use Rattle.bitmaps.specs.Reach.{HoldsBits, MaskThere, Reached, bit_in, byte_bit, Reaches}
-use Rattle.bits.proofs.Bytes.{block_inside}
+use Rattle.bitmaps.specs.Reach.{HoldsBits, taken_bits, Reached, bit_in, byte_bit, Reaches}
 use Rattle.bits.proofs.Bits.{bit_value-lt, bit_test, bit-value, byte_of-bit, byte_of-cong, pack-cong, valid_at-absent, valid_at-present}
 use Rattle.bits.proofs.Words.{byte-and}
 use Rattle.tables.proofs.Facts.{index-formed}
@@ -26,26 +25,16 @@ use Rattle.gathers.proofs.Buffers.{valid-below, bit-named, bit-null}
 
 -- ---- a bit
 
--- bit t of a byte, by a shift and a mask: 0 or 1, and a number times it is no larger
+-- bit t of a byte, by a shift and a mask: 0 or 1
 module _ (y t : ℕ) where
   pub mask-le : bit_and (y / 2 ^ t) 1 ≤ 1
   mask-le = and_le_r (y / 2 ^ t) 1
-
-  pub mask-times : (a : ℕ) → a * bit_and (y / 2 ^ t) 1 ≤ a
-  mask-times a = omega (arith, mul-le-mul_left a mask-le, mul-one a)
 
   mask-bit : bit_and (y / 2 ^ t) 1 ≡ bit_value (bit_in y t)
   mask-bit = and_mask (y / 2 ^ t) 1 ∙ sym (bit-value (y / 2 ^ t))
 
 -- v masks number m and the bit that is read
 module _ (b : ℕ) (s : List ℕ) (z : Bool) (m : ℕ) {v : ℕ} (d : v ≡ bit_value z) where
-  place-there : b < 8 * length s → (z ≡ true → b + m < 8 * length s) → b + m * v < 8 * length s
-  place-there some inside = go z refl d
-    where
-      go : (t : Bool) → z ≡ t → v ≡ bit_value t → b + m * v < 8 * length s
-      go true q e = rw (e, mul-one m) (inside q)
-      go false q e = rw (e, mul-zero m) (omega arith)
-
   masked-bit : bit_value (bit_at s (b + m * v)) * v ≡ bit_value (z && bit_at s (b + m))
   masked-bit = go z d
     where
@@ -59,72 +48,65 @@ module _ (b : ℕ) (s : List ℕ) (z : Bool) (m : ℕ) {v : ℕ} (d : v ≡ bit_
       let few : 1 + t ≤ 8 = omega arith in
       rw (o ∙ masked-bit) (shl_exact 1 t 8 (bit_value-lt (z && bit_at s (b + m))) few)
 
-module _ {b w : ℕ} {numbers s : List ℕ} {valid p n : ℕ} (r : Reaches b w numbers s valid p n) where
-  -- of fewer bits
-  pub reaches-less : (m : ℕ) → 0 < m → m ≤ n → Reaches b w numbers s valid p m
-  reaches-less m some h =
-      let l : p + m ≤ p + n = omega arith in
-      let bytes : (p + m) * w ≤ (p + n) * w = mul-le-mul_right w l in
-      record {
-        width = r.width;
-        numbered = omega (arith, r.numbered);
-        few = (some, omega (arith, r.few), omega (arith, r.few));
-        small = r.small;
-        some = r.some;
-        inside = λ t l. r.inside t (omega arith);
-      }
-
-  module _ (t : ℕ) (h : t < n) where
-    pub number-there : (is_number_width w ≡ true) × ((p + t) * w + w ≤ length numbers)
-    number-there = (r.width, omega (arith, r.numbered, block_inside (p + t) (p + n) w (omega arith)))
-
-    pub bit-there : {m : ℕ} → m ≡ number_at w numbers (p + t) → b + m * bit_and (valid / 2 ^ t) 1 < 8 * length s
-    bit-there e = place-there b s (bit_in valid t) _ (mask-bit valid t) r.some (λ q. rw e (r.inside t h q))
-
-    pub bit-taken : {m : ℕ} → m ≡ number_at w numbers (p + t) → {y : ℕ}
-        → y ≡ bit_value (bit_at s (b + m * bit_and (valid / 2 ^ t) 1)) * bit_and (valid / 2 ^ t) 1
-        → (y * 2 ^ t) % 2 ^ 8 ≡ bit_value (byte_bit b w numbers s valid p t) * 2 ^ t
-    bit-taken {m} e o = rw (← e) (bit_moved b s (bit_in valid t) m (mask-bit valid t) t (omega (arith, r.few)) o)
+pub bit-taken : {b : ℕ} {x : IndexColumn} {s : List ℕ} {valid p n : ℕ} → Reaches b x s valid p n → (t : ℕ) → t < n → {m : ℕ}
+    → m ≡ number_at x.indices.width x.«data» (p + t) → {y : ℕ} → y ≡ bit_value (bit_at s (b + m * bit_and (valid / 2 ^ t) 1)) * bit_and (valid / 2 ^ t) 1
+    → (y * 2 ^ t) % 2 ^ 8 ≡ bit_value (byte_bit b x s valid p t) * 2 ^ t
+bit-taken {b} {x} {s} {valid} r t h {m} e o = rw (← e) (bit_moved b s (bit_in valid t) m (mask-bit valid t) t (omega (arith, r.few)) o)
 
 -- ---- the validity of the indices of a byte
 
 module _ (v : List ℕ) (b p n : ℕ) where
-  pub valid-read : (length v ≡ 0 → ⊥) → n ≤ 8 → {r : ℕ} → r ≡ byte_of (λ t. ltb t n && bit_at v (b + p + t)) → (t : ℕ) → t < n → bit_in r t ≡ valid_at v b (p + t)
-  valid-read some few e t h =
+  pub valid_read : is_absent v ≡ false → n ≤ 8 → {r : ℕ} → r ≡ byte_of (λ t. ltb t n && bit_at v (b + p + t)) → (t : ℕ) → t < n → bit_in r t ≡ valid_at v b (p + t)
+  valid_read some few e t h =
       let g : ℕ → Bool = λ i. ltb i n && bit_at v (b + p + i) in
       let at : b + p + t ≡ b + (p + t) = omega arith in
-      let bit : g t ≡ valid_at v b (p + t) = rw (lt-ltb t n h, at) (sym (valid_at-present v b (p + t) some)) in
+      let bit : g t ≡ valid_at v b (p + t) = rw (lt-ltb t n h, at) (sym (valid_at-present v b (p + t) (eqb-false (length v) 0 some))) in
       ap (λ (y : ℕ). eqb (y / 2 ^ t % 2) 1) e ∙ ap (λ (y : ℕ). eqb y 1) (byte_of-bit g t (omega arith)) ∙ bit_test (g t) ∙ bit
+
+-- a source without bytes that has so many rows has none
+pub no-bits : {b rows : ℕ} (s : List ℕ) → HoldsBits b rows s → is_absent s ≡ true → rows ≡ 0
+no-bits s held e = let empty = eqb-true (length s) 0 e in omega (arith, held.there, empty)
 
 -- ---- an index column in range, and a source that has its rows
 
 module _ (s : List ℕ) (b rows : ℕ) (x : IndexColumn) (i : InRange rows x) where
   -- where there is an index there is a row, save where a validity says that no index is valid
-  rows-there : (eqb rows 0 && not (is_absent x.validity)) ≡ false → 0 < x.indices.count → 0 < rows
-  rows-there = go (is_absent x.validity) refl (eqb rows 0) refl
+  rows-there : (rows ≡ 0 → is_absent x.validity ≡ true) → 0 < x.indices.count → 0 < rows
+  rows-there none h = go (eqb rows 0) refl
     where
-      go : (a : Bool) → is_absent x.validity ≡ a → (t : Bool) → eqb rows 0 ≡ t → (t && not a) ≡ false → 0 < x.indices.count → 0 < rows
-      go a d false q e h = let n : rows ≡ 0 → ⊥ = eqb-false rows 0 q in omega (arith, n)
-      go false d true q e h = absurd (true≢false e)
-      go true d true q e h =
-          let valid : index_valid x 0 ≡ true =
-          index-valid x 0 ∙ valid_at-absent x.validity x.indices.validity_bit 0 (eqb-true (length x.validity) 0 d) in
+      go : (t : Bool) → eqb rows 0 ≡ t → 0 < rows
+      go false e = let n : rows ≡ 0 → ⊥ = eqb-false rows 0 e in omega (arith, n)
+      go true e =
+          let absent : length x.validity ≡ 0 = eqb-true (length x.validity) 0 (none (eqb-true rows 0 e)) in
+          let valid : index_valid x 0 ≡ true = index-valid x 0 ∙ valid_at-absent x.validity x.indices.validity_bit 0 absent in
           omega (arith, valid-below rows x i 0 h valid)
 
-  pub reached : HoldsBits b rows s → (eqb rows 0 && not (is_absent x.validity)) ≡ false → Reached b s x
-  reached held e = record {
-    passed = i.passed;
-    small = held.small;
-    some = λ h. omega (arith, held.there, rows-there e h);
-    inside = λ j h d. omega (arith, held.there, valid-below rows x i j h d);
-  }
+  pub reached : (is_absent s ≡ false → HoldsBits b rows s) → (is_absent s ≡ true → rows ≡ 0) → (rows ≡ 0 → is_absent x.validity ≡ true) → Reached b s x
+  reached held some none = go (is_absent s) refl
+    where
+      go : (t : Bool) → is_absent s ≡ t → Reached b s x
+      go false e = let h = held e in record {
+        passed = i.passed;
+        small = h.small;
+        some = λ l. omega (arith, h.there, rows-there none l);
+        inside = λ j l d. omega (arith, h.there, valid-below rows x i j l d);
+      }
+      go true e = let no = some e in let empty = eqb-true (length s) 0 e in record {
+        passed = i.passed;
+        small = omega (arith, empty);
+        some = λ l. absurd (omega (arith, no, rows-there none l));
+        inside = λ j l d. absurd (omega (arith, no, valid-below rows x i j l d));
+      }
 
   -- of no rows none is valid, and the output is the validity of the indices
-  pub no_rows : (m : List ℕ) → rows ≡ 0 → (length x.validity ≡ 0 → ⊥)
-      → pack x.indices.count (λ j. bit_at x.validity (x.indices.validity_bit + j)) ≡ pack x.indices.count (λ j. taken_bit s b x j && valid_at m 0 j)
-  no_rows m e n =
-      pack-cong x.indices.count
-      (λ j h. sym (index-valid x j ∙ valid_at-present x.validity x.indices.validity_bit j n) ∙ none j h ∙ sym (ap (λ (t : Bool). t && valid_at m 0 j) (bit-null s b x j (none j h))))
+  pub no_rows : (m d : List ℕ) {y : List ℕ} → rows ≡ 0 → is_absent x.validity ≡ false
+      → y ≡ overwrite (pack x.indices.count (λ j. bit_at x.validity (x.indices.validity_bit + j))) d → y ≡ overwrite (taken_bits s b x m) d
+  no_rows m d e n o =
+      let some = eqb-false (length x.validity) 0 n in
+      o
+      ∙ ap (λ (z : List ℕ). overwrite z d)
+      (pack-cong x.indices.count
+      (λ j h. sym (index-valid x j ∙ valid_at-present x.validity x.indices.validity_bit j some) ∙ none j h ∙ sym (ap (λ (t : Bool). t && valid_at m 0 j) (bit-null s b x j (none j h)))))
     where
       none : (j : ℕ) → j < x.indices.count → index_valid x j ≡ false
       none j h = go (index_valid x j) refl
@@ -145,7 +127,7 @@ module _ (s : List ℕ) (b : ℕ) (x : IndexColumn) (r : Reached b s x) (p n : �
 
   -- by the byte of it
   module _ (valid : ℕ) (v : (t : ℕ) → t < n → bit_in valid t ≡ valid_at x.validity x.indices.validity_bit (p + t)) where
-    pub byte-reached : p + n ≤ x.indices.count → (0 < n) × (n ≤ 8) → Reaches b x.indices.width x.«data» s valid p n
+    pub byte-reached : p + n ≤ x.indices.count → (0 < n) × (n ≤ 8) → Reaches b x s valid p n
     byte-reached h few =
         let f = index-formed x r.passed in
         let bytes : (p + n) * x.indices.width ≤ x.indices.count * x.indices.width = mul-le-mul_right x.indices.width h in
@@ -158,19 +140,19 @@ module _ (s : List ℕ) (b : ℕ) (x : IndexColumn) (r : Reached b s x) (p n : �
           inside = λ t l e. rw (← index_number x (p + t)) (r.inside (p + t) (omega arith) (index-valid x (p + t) ∙ sym (v t l) ∙ e));
         }
 
-    pub byte-taken : {y : ℕ} → y ≡ byte_of (λ t. ltb t n && byte_bit b x.indices.width x.«data» s valid p t) → y ≡ byte_of (λ t. ltb t n && taken_bit s b x (p + t))
+    pub byte-taken : {y : ℕ} → y ≡ byte_of (λ t. ltb t n && byte_bit b x s valid p t) → y ≡ byte_of (λ t. ltb t n && taken_bit s b x (p + t))
     byte-taken e = e ∙ byte_of-cong (λ t l. go t (ltb t n) refl)
       where
         bit : (t : ℕ) (z : Bool) → index_valid x (p + t) ≡ z → (z && bit_at s (b + index x (p + t))) ≡ taken_bit s b x (p + t)
         bit t true d = sym (bit-named s b x (p + t) d)
         bit t false d = sym (bit-null s b x (p + t) d)
 
-        go : (t : ℕ) (z : Bool) → ltb t n ≡ z → (z && byte_bit b x.indices.width x.«data» s valid p t) ≡ (z && taken_bit s b x (p + t))
+        go : (t : ℕ) (z : Bool) → ltb t n ≡ z → (z && byte_bit b x s valid p t) ≡ (z && taken_bit s b x (p + t))
         go t true d = rw (v t (ltb-true t n d), ← index_number x (p + t)) (bit t (valid_at x.validity x.indices.validity_bit (p + t)) (index-valid x (p + t)))
         go t false d = refl
 
     -- and masked by the byte of a mask
-    pub byte-kept : (m : List ℕ) {y : ℕ} → y ≡ byte_of (λ t. ltb t n && byte_bit b x.indices.width x.«data» s valid p t) → (kept : ℕ)
+    pub byte-kept : (m : List ℕ) {y : ℕ} → y ≡ byte_of (λ t. ltb t n && byte_bit b x s valid p t) → (kept : ℕ)
         → ((t : ℕ) → t < n → bit_in kept t ≡ valid_at m 0 (p + t)) → bit_and y kept ≡ byte_of (λ t. ltb t n && (taken_bit s b x (p + t) && valid_at m 0 (p + t)))
     byte-kept m e kept k =
         ap (λ (z : ℕ). bit_and z kept) (byte-taken e)
@@ -180,8 +162,3 @@ module _ (s : List ℕ) (b : ℕ) (x : IndexColumn) (r : Reached b s x) (p n : �
         go : (t : ℕ) (z : Bool) → ltb t n ≡ z → ((z && taken_bit s b x (p + t)) && bit_in kept t) ≡ (z && (taken_bit s b x (p + t) && valid_at m 0 (p + t)))
         go t true d = rw (k t (ltb-true t n d))
         go t false d = refl
-
--- the bits of a mask are there, if any is lent
-pub mask-there : (m : List ℕ) (count : ℕ) → MaskThere count m → count ≤ max_rows → (p n : ℕ) → p + n ≤ count → is_absent m ≡ false
-    → (0 + p + n ≤ 8 * length m) × (0 + p < 2 ^ 64)
-mask-there m count t few p n h e = (omega (arith, t e), omega arith)

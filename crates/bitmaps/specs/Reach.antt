@@ -31,15 +31,15 @@ pub record Reached (b : ℕ) (s : List ℕ) (x : IndexColumn) : Type 0 where
 abbrev pub bit_in : ℕ → ℕ → Bool
 bit_in y t = y / 2 ^ t % 2 == 1
 
--- bit t of the output byte whose first index is index p: where bit t of valid is set, that of the row which number p + t, of w bytes, names
-abbrev pub byte_bit : ℕ → ℕ → List ℕ → List ℕ → ℕ → ℕ → ℕ → Bool
-byte_bit b w numbers s valid p t = bit_in valid t && bit_at s (b + number_at w numbers (p + t))
+-- bit t of the output byte whose first index is index p: where bit t of valid is set, that of the row which number p + t names
+abbrev pub byte_bit : ℕ → IndexColumn → List ℕ → ℕ → ℕ → ℕ → Bool
+byte_bit b x s valid p t = bit_in valid t && bit_at s (b + number_at x.indices.width x.«data» (p + t))
 
 -- n numbers from number p on are there; and so is the first row's bit, and that of each row which one of them names where valid has its bit set
-pub record Reaches (b w : ℕ) (numbers s : List ℕ) (valid p n : ℕ) : Type 0 where
-  pub width : is_number_width w ≡ true
-  pub numbered : (p + n) * w ≤ length numbers
+pub record Reaches (b : ℕ) (x : IndexColumn) (s : List ℕ) (valid p n : ℕ) : Type 0 where
+  pub width : is_number_width x.indices.width ≡ true
+  pub numbered : (p + n) * x.indices.width ≤ length x.«data»
   pub few : (0 < n) × (n ≤ 8) × (p + n ≤ max_rows)
   pub small : length s ≤ max_bytes
   pub some : b < 8 * length s
-  pub inside : (t : ℕ) → t < n → bit_in valid t ≡ true → b + number_at w numbers (p + t) < 8 * length s
+  pub inside : (t : ℕ) → t < n → bit_in valid t ≡ true → b + number_at x.indices.width x.«data» (p + t) < 8 * length s

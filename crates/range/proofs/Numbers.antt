@@ -2,20 +2,19 @@
 use mathlib.Core.Path.{◌≡◌, refl, sym, ap, ◌∙◌}
 use mathlib.Core.Bool.{Bool, true, false, cond, true≢false}
 use mathlib.Core.List.{List}
-use Prim.Native.Nat.{ℕ, zero, suc, ◌+◌, ◌-◌, ◌*◌, ◌/◌, ◌%◌, ◌^◌, ◌≤◌, ◌<◌}
-use native.Mathlib.Nat.{le_refl, mod-eq_of_lt}
+use Prim.Native.Nat.{ℕ, suc, ◌+◌, ◌-◌, ◌*◌, ◌/◌, ◌%◌, ◌^◌, ◌≤◌, ◌<◌}
+use native.Mathlib.Nat.{le_refl, mod-eq_of_lt, mul-le-mul_right}
 use native.Mathlib.Omega.{arith}
 use lib.Dec.{leb, ltb}
 use lib.ListN.{length, drop, length-drop}
 use lib.Seq.{take_all}
-use borrow.Author.Tests.{ltb-true, ltb-false, lt-ltb, le-ltb, le-leb}
+use borrow.Author.Tests.{ltb-true, ltb-false, lt-ltb, le-ltb}
 use Rattle.bits.specs.Sequences.{any, first}
 use Rattle.bits.specs.Bytes.{part}
 use Rattle.bits.specs.Numbers.{number_at}
 use Rattle.range.specs.Scanned.{block_of}
 use Rattle.bits.proofs.Tests.{false-or}
 use Rattle.bits.proofs.Sequences.{any-cong, any-add, any_none, none_any, first_cong, first-none, first-before, first_passes}
-use Rattle.bits.proofs.Bytes.{length_part}
 use Rattle.bits.proofs.Numbers.{number_at-from}
 
 -- compared at a literal width
@@ -28,23 +27,14 @@ outside_above n m f some =
     let one : suc (n - 1) ≡ n = omega arith in
     ap (block_of m) (first_cong m (λ j h. ap (λ (k : ℕ). leb k (f j)) one))
 
--- of no rows each number is
-pub outside-none : (n m : ℕ) (f : ℕ → ℕ) → n ≡ 0 → 0 ≡ block_of m (first m (λ j. leb n (f j)))
-outside-none n zero f e = refl
-outside-none n (suc m) f e =
-    let here : leb n (f 0) ≡ true = le-leb n (f 0) (omega arith) in
-    rw (here, lt-ltb 0 (suc m) (omega arith))
-
--- a block of n numbers, in the part of the buffer that starts with it
-module _ (w from n : ℕ) (s : List ℕ) (h : (from + n) * w ≤ length s) where
-  pub block-there : n * w ≤ length (part (from * w) (length s - from * w) s)
-  block-there = omega (arith, length_part (from * w) (length s - from * w) s (omega arith))
-
-  pub block-numbers : (p : ℕ → Bool) → any n (λ k. p (number_at w (part (from * w) (length s - from * w) s) k)) ≡ any n (λ k. p (number_at w s (from + k)))
-  block-numbers p =
-      let rest : part (from * w) (length s - from * w) s ≡ drop (from * w) s =
-      take_all (length s - from * w) (drop (from * w) s) (omega (arith, length-drop (from * w) s)) in
-      any-cong n (λ k l. ap p (ap (λ (t : List ℕ). number_at w t k) rest ∙ number_at-from w s from k))
+-- what was found of the numbers of a block, in the part of the buffer that starts with it
+pub block-numbers : (w from n m : ℕ) (s : List ℕ) (p : ℕ → Bool) {some : Bool} → from + n ≤ m → m * w ≤ length s
+    → some ≡ any n (λ k. p (number_at w (part (from * w) (length s - from * w) s) k)) → any n (λ k. p (number_at w s (from + k))) ≡ some
+block-numbers w from n m s p inside fits found =
+    let at : from * w ≤ m * w = mul-le-mul_right w (omega arith) in
+    let rest : part (from * w) (length s - from * w) s ≡ drop (from * w) s =
+    take_all (length s - from * w) (drop (from * w) s) (omega (arith, length-drop (from * w) s)) in
+    sym (found ∙ any-cong n (λ k l. ap p (ap (λ (t : List ℕ). number_at w t k) rest ∙ number_at-from w s from k)))
 
 -- ---- blocks of 512, of which none before one passes
 
@@ -71,8 +61,8 @@ module _ (m : ℕ) (p : ℕ → Bool) where
           absurd (true≢false (sym met ∙ none_any n (λ k. p (from + k)) (λ k l. first-before m p (from + k) (omega arith))))
 
   -- none of all does
-  pub none-met : any m p ≡ false → m ≡ block_of m (first m p)
-  none-met none = rw (first-none m p (any_none m p none), le-ltb m m (le_refl m))
+  pub none-met : (from : ℕ) → from ≤ m → m ≤ from → any from p ≡ false → from ≡ block_of m (first m p)
+  none-met from g h none = rw (first-none m p (λ k l. any_none from p none k (omega arith)), le-ltb m m (le_refl m)) (omega arith)
 
   -- so none before that block does
   pub before-block : (block_of m (first m p) ≤ m) × (any (block_of m (first m p)) p ≡ false)

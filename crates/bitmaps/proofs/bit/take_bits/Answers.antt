@@ -1,29 +1,27 @@
 -- Where there is no row, the output is the validity of the indices.
-use Rattle.std.proofs.Common.{List, ℕ, nat_eq, not, length, ap, ◌∙◌, arith}
-use borrow.Author.Tests.{eqb-true, eqb-false, not-true}
-use Rattle.bits.specs.Bytes.{overwrite}
-use Rattle.bits.specs.Bits.{is_absent}
-use Rattle.tables.specs.Columns.{index_column_at}
-use Rattle.bits.proofs.Tests.{and-true}
+use Rattle.std.proofs.Common.{sym, ◌∙◌, arith}
+use Rattle.tables.specs.Columns.{index_column_of}
 use Rattle.tables.proofs.Facts.{index-formed}
 use Rattle.tables.proofs.There.{valid-bits-there}
 use Rattle.bitmaps.proofs.Reading.{reached, no_rows}
 use Rattle.bitmaps.proofs.bit.take_bits.Goals as goal
+use Rattle.bitmaps.proofs.bit.take_bits.Goals.{else-src-eq0-via-then-src-eq0+else-not-is_empty, else-src-eq0-via-else-src-eq0}
 
 pub pack_bits-requires : goal.pack_bits-requires
 pack_bits-requires c =
     let x = index-formed _ c.requires.in_range.passed in
-    let d = and-true (nat_eq c.args.rows 0) (not (is_absent c.args.index_validity.now)) c.if-rows-index_validity.true in
-    (valid-bits-there c.args.index_validity.now _ _ x.validity_fits (not-true (is_absent c.args.index_validity.now) d.1), omega (arith, x.count), c.requires.room)
+    (valid-bits-there c.args.indices.now.validity.now _ _ x.validity_fits (sym c.is_empty.ensures ∙ c.if-not-is_empty.true), omega (arith, x.count), c.requires.room)
 
-pub returns-then-rows-index_validity : goal.returns-then-rows-index_validity
-returns-then-rows-index_validity c =
+pub returns-then-not-is_empty : goal.returns-then-not-is_empty
+returns-then-not-is_empty c =
     let a = c.args in
-    let d = and-true (nat_eq a.rows 0) (not (is_absent a.index_validity.now)) c.if-rows-index_validity.true in
-    c.pack_bits.ensures
-    ∙ ap (λ (e : List ℕ). overwrite e a.out.now)
-    (no_rows a.src.now a.bit_offset a.rows (index_column_at a.indices a.index_data a.index_validity) c.requires.in_range a.mask.now (eqb-true a.rows 0 d.0) (eqb-false (length a.index_validity.now) 0 (not-true (is_absent a.index_validity.now) d.1)))
+    no_rows a.src.now.values.now a.src.now.offset a.src.now.len (index_column_of a.indices.now) c.requires.in_range a.mask.now a.out.now c.if-src-eq0.true
+    (sym c.is_empty.ensures ∙ c.if-not-is_empty.true) c.pack_bits.ensures
 
 pub take_reached-requires-clause-reached : goal.take_reached-requires-clause-reached
 take_reached-requires-clause-reached c =
-    reached c.args.src.now c.args.bit_offset c.args.rows _ c.requires.in_range c.requires.holds_bits c.if-rows-index_validity.false
+    reached c.args.src.now.values.now c.args.src.now.offset c.args.src.now.len _ c.requires.in_range c.args.src.now.held c.requires.some
+    (elim c.else-src-eq0.branch [
+      | else-src-eq0-via-then-src-eq0+else-not-is_empty w ↦ λ z. sym w.is_empty.ensures ∙ w.if-not-is_empty.false
+      | else-src-eq0-via-else-src-eq0 w ↦ λ z. absurd (w.if-src-eq0.false z)
+    ])

@@ -1,6 +1,7 @@
 -- Eight bits in their places are a byte, so each sum fits.
 use Rattle.std.proofs.Common.{ℕ, Bool, ◌≡◌, ◌+◌, ◌^◌, ◌≤◌, ap, ◌∙◌, arith}
 use lib.Pow.{pow_mono}
+use Rattle.tables.specs.Columns.{index_column_of}
 use Rattle.bits.proofs.Bits.{bits_to, bits_to-step, bits_to-lt, bits_to-byte_of}
 use Rattle.bitmaps.specs.Reach.{byte_bit}
 use Rattle.bitmaps.proofs.bit.take_byte.Goals as goal
@@ -9,14 +10,13 @@ pub overflow_add-byte : goal.overflow_add-byte
 overflow_add-byte c =
     let at = c.loop-t in
     let a = c.args in
-    let g : ℕ → Bool = λ i. byte_bit a.offset a.w a.index_data.now a.src.now a.valid a.p i in
+    let g : ℕ → Bool = byte_bit a.bit_offset (index_column_of a.indices.now) a.src.now a.valid a.p in
     let few : 2 ^ (at.t + 1) ≤ 2 ^ 8 = pow_mono {j = 8} (omega (arith, c.requires.few)) in
     omega (arith, c.take_bit-byte.ensures, bits_to-step at.t g, bits_to-lt (at.t + 1) g)
 
 pub returns : goal.returns
 returns c =
-    let at = c.loop-t in
     let a = c.args in
-    let g : ℕ → Bool = λ i. byte_bit a.offset a.w a.index_data.now a.src.now a.valid a.p i in
-    let e : at.t ≡ a.n = omega arith in
-    at.invariant.summed ∙ ap (λ (m : ℕ). bits_to m g) e ∙ bits_to-byte_of a.n g (omega (arith, c.requires.few))
+    let g : ℕ → Bool = byte_bit a.bit_offset (index_column_of a.indices.now) a.src.now a.valid a.p in
+    let e : c.loop-t.t ≡ a.n = omega arith in
+    c.loop-t.invariant ∙ ap (λ (m : ℕ). bits_to m g) e ∙ bits_to-byte_of a.n g (omega (arith, c.requires.few))

@@ -5,11 +5,11 @@ use Rattle.bits.specs.Numbers.{number_at}
 use Rattle.range.proofs.outside.block_above.Given as goal
 
 abbrev pub invariant-loop-from : goal.invariant-loop-from
-invariant-loop-from l = record {
+invariant-loop-from g l = record {
   inside : l.from ≤ l.count;
   start : l.from < l.count → l.from % 512 ≡ 0;
-  before : any l.from (λ j. nat_lt l.last (number_at l.w l.index_data j)) ≡ false;
+  before : any l.from (λ j. nat_lt l.last (number_at g.row.W l.index_data j)) ≡ false;
 }
 
 abbrev pub decreases-loop-from : goal.decreases-loop-from
-decreases-loop-from l = l.count - l.from
+decreases-loop-from g l = l.count - l.from
