@@ -5,3 +5,4 @@
 mod block; // block.rt: one block, copied from the data or from zeros
 pub mod named; // named.rt: the named blocks, where each number names one
 pub mod valid; // valid.rt: the named blocks, where a validity says which numbers do
+pub mod zeros; // zeros.rt: the zeros that null rows are copied from

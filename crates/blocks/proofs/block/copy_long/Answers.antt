@@ -1,33 +1,24 @@
--- The last 32 bytes end the block, wherever p is.
-use Rattle.std.proofs.Common.{◌≡◌, ℕ, ◌+◌, ◌-◌, List, length, replicate, if◌then◌else◌, ap, ◌∙◌, arith}
-use Rattle.bits.specs.Routines.{overwrite_at}
-use Rattle.bits.proofs.Copies.{copied_more, copied_all}
-use Rattle.blocks.proofs.Sources.{length-long, long-piece, long-next, long-last}
+-- A turn is 32 bytes more. The last 32 bytes end the block, wherever the last turn left off.
+use Rattle.std.proofs.Common.{rules, ◌≡◌, ◌+◌, ◌*◌, ◌-◌, List, ℕ, length, replicate, if◌then◌else◌, arith}
+use Rattle.bits.proofs.Copies.{copied_all}
+use Rattle.blocks.proofs.Sources.{length_long, long_place, long_last, long_more}
 use Rattle.blocks.proofs.block.copy_long.Goals as goal
+use Rattle.blocks.proofs.block.copy_long.Goals.{then-valid, else-valid}
 
-pub loop-p-preserved : goal.loop-p-preserved
-loop-p-preserved c =
+pub loop-k-preserved : goal.loop-k-preserved
+loop-k-preserved c =
     let a = c.args in
-    let at = c.loop-p in
-    let e : List ℕ = if a.valid then a.src.now else replicate a.n 0 in
-    let l : length e ≡ a.n = length-long a.valid a.n a.src.now c.requires.source in
-    let piece = long-piece a.valid a.n at.p at.q a.src.now c.requires.source (omega arith) at.invariant.place in
-    record {
-      within = omega arith;
-      place = long-next a.valid at.p at.invariant.place c.step_of-step.ensures;
-      written =
-          copied_more 32 at.p at.p e a.dst.now (omega arith) (omega arith) (omega arith) at.invariant.written
-          (c.copy_block.ensures ∙ ap (λ (z : List ℕ). overwrite_at at.p z at.dst) piece);
-    }
+    let k = c.loop-k.k in
+    let step : c.if-valid.step ≡ (if a.valid then 32 else 0) = elim c.if-valid.branch [ then-valid w ↦ search rules | else-valid w ↦ search rules ] in
+    let next : (k + 1) * 32 ≡ k * 32 + 32 = omega arith in
+    rw next (long_more a.valid a.n (k * 32) (k * c.if-valid.step) (k * 32) a.src.now a.dst.now c.requires.source (omega arith) (long_place a.valid k step)
+    (omega arith) (omega arith) c.loop-k.invariant c.copy_block.ensures)
 
 pub returns : goal.returns
 returns c =
     let a = c.args in
-    let at = c.loop-p in
     let e : List ℕ = if a.valid then a.src.now else replicate a.n 0 in
-    let l : length e ≡ a.n = length-long a.valid a.n a.src.now c.requires.source in
-    let last = long-last a.valid a.n a.src.now c.requires.source in
-    let piece = long-piece a.valid a.n (a.n - 32) (length a.src.now - 32) a.src.now c.requires.source (omega arith) last in
+    let l : length e ≡ a.n = length_long a.valid a.n a.src.now c.requires.source in
     copied_all (a.n - 32 + 32) e a.dst.now (omega arith)
-    (copied_more 32 (a.n - 32) at.p e a.dst.now (omega arith) (omega arith) (omega arith) at.invariant.written
-    (c.copy_block-2.ensures ∙ ap (λ (z : List ℕ). overwrite_at (a.n - 32) z at.dst) piece))
+    (long_more a.valid a.n (a.n - 32) (length a.src.now - 32) (c.loop-k.k * 32) a.src.now a.dst.now c.requires.source (omega arith)
+    (long_last a.valid a.n a.src.now c.requires.source) (omega arith) (omega arith) c.loop-k.invariant c.copy_block-2.ensures)

@@ -1,14 +1,7 @@
--- The first p bytes are written, and q is their place in the source.
-use Rattle.std.proofs.Common.{◌-◌, ◌≡◌, if◌then◌else◌, ◌≤◌, replicate, take}
+-- The first k times 32 bytes are written.
+use Rattle.std.proofs.Common.{◌≡◌, ◌*◌, if◌then◌else◌, replicate, take}
 use Rattle.bits.specs.Bytes.{overwrite}
 use Rattle.blocks.proofs.block.copy_long.Given as goal
 
-abbrev pub invariant-loop-p : goal.invariant-loop-p
-invariant-loop-p l = record {
-  within : l.p ≤ l.n;
-  place : l.q ≡ (if l.valid then l.p else 0);
-  written : l.dst ≡ overwrite (take l.p (if l.valid then l.src else replicate l.n 0)) l.fn.dst;
-}
-
-abbrev pub decreases-loop-p : goal.decreases-loop-p
-decreases-loop-p l = l.n - l.p
+abbrev pub invariant-loop-k : goal.invariant-loop-k
+invariant-loop-k l = l.dst ≡ overwrite (take (l.k * 32) (if l.valid then l.src else replicate l.n 0)) l.fn.dst
