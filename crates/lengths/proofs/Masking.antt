@@ -3,30 +3,17 @@ use mathlib.Core.Path.{◌≡◌, refl, sym, ap, ap₂, ◌∙◌}
 use mathlib.Core.Bool.{Bool, true, false, ◌&&◌}
 use mathlib.Core.List.{List}
 use Prim.Native.Nat.{ℕ, suc, ◌+◌, ◌-◌, ◌*◌, ◌%◌, ◌^◌, ◌≤◌, ◌<◌}
-use native.Mathlib.Nat.{mul-one, mul-zero, mul-le-mul_left}
+use native.Mathlib.Nat.{mul-one, mul-zero}
 use native.Mathlib.Numerals.{add-one}
 use native.Mathlib.Omega.{arith}
-use mir.Syntax.{w64}
-use mir.Val.{Fits}
 use lib.Bits.{bit_and, and_le_r}
 use lib.ListN.{length}
-use borrow.Author.Tests.{ne_eqb}
 use Rattle.bits.specs.Numbers.{number_at}
 use Rattle.bits.specs.Bits.{bit_value, bit_at, valid_at}
 use Rattle.bits.proofs.Tests.{and_right}
 use Rattle.bits.proofs.Bits.{bit_value-lt, bit-and, valid_at-absent, valid_at-present}
 use Rattle.lengths.specs.declared.row.Taken.{Taken}
 use Rattle.lengths.specs.Entries.{Selection, row_number, is_selected, is_shown, taken_row, entries_at, SelectionThere, EntriesThere}
-
--- what a number that is 0 or 1 masks is no larger
-pub masked-fits : {n v : ℕ} → v ≤ 1 → Fits w64 n → Fits w64 (n * v)
-masked-fits {n} h f = omega (arith, mul-le-mul_left n h)
-
-pub both-low : (m : ℕ) {v : ℕ} → v ≤ 1 → bit_and m v ≤ 1
-both-low m {v} h = omega (arith, and_le_r m v)
-
-bit-low : (t : Bool) {v : ℕ} → v ≡ bit_value t → v ≤ 1
-bit-low t e = omega (arith, e, bit_value-lt t)
 
 -- a number that a bit masks, with the bit
 masked : (t : Bool) (n : ℕ) {r v : ℕ} → v ≡ bit_value t → r ≡ n * v → record { row = r; valid = v } ≡ taken_row t n
@@ -36,44 +23,37 @@ masked false n e d = ap₂ (λ (a b : ℕ). record { row = a; valid = b }) (rw e
 -- ---- the row, from the bit v of its index and the number n at it
 
 module _ {p : Selection} {j : ℕ} (h : SelectionThere p j) {v : ℕ} (e : v ≡ bit_value (is_selected p j)) {n : ℕ} (d : n ≡ row_number p j) where
-  pub selected-low : v ≤ 1
-  selected-low = bit-low (is_selected p j) e
-
   -- rows that are all valid
   pub row-by-index : length p.validity ≡ 0 → record { row = n * v; valid = v } ≡ taken_row (is_shown p j) (row_number p j)
   row-by-index z =
       let k : is_shown p j ≡ is_selected p j = rw (valid_at-absent p.validity p.bit (row_number p j) z) (and_right (is_selected p j)) in
       masked (is_shown p j) (row_number p j) (e ∙ ap bit_value (sym k)) (ap (λ (m : ℕ). m * v) d)
 
-  module _ (there : length p.validity ≡ 0 → ⊥) where
-    -- the bit of the row that a valid index names, else that of row 0
-    pub bit-can : (p.bit + n * v < 8 * length p.validity) × (p.bit + n * v < 2 ^ 64)
-    bit-can = rw (d, e) (h.shown (ne_eqb (length p.validity) 0 there))
+  -- the bit of the row that a valid index names, else that of row 0
+  module _ (there : length p.validity ≡ 0 → ⊥) {m : ℕ} (f : m ≡ bit_value (bit_at p.validity (p.bit + n * v))) where
+    valid-both : bit_and m v ≡ bit_value (is_shown p j)
+    valid-both = go (is_selected p j) e
+      where
+        go : (t : Bool) → v ≡ bit_value t → bit_and m v ≡ bit_value (t && valid_at p.validity p.bit (row_number p j))
+        go true g =
+            let k : n * v ≡ row_number p j = rw (g, mul-one n) d in
+            let y : m ≡ bit_value (valid_at p.validity p.bit (row_number p j)) = f ∙ ap (λ (i : ℕ). bit_value (bit_at p.validity (p.bit + i))) k ∙ ap bit_value (sym (valid_at-present p.validity p.bit (row_number p j) there)) in
+            let z : m % 2 * v ≡ m = rw (g, mul-one (m % 2)) (omega (arith, y, bit_value-lt (valid_at p.validity p.bit (row_number p j)))) in
+            bit-and m v (omega (arith, g)) ∙ z ∙ y
+        go false g = bit-and m v (omega (arith, g)) ∙ rw (g, mul-zero (m % 2))
 
-    module _ {m : ℕ} (f : m ≡ bit_value (bit_at p.validity (p.bit + n * v))) where
-      valid-both : bit_and m v ≡ bit_value (is_shown p j)
-      valid-both = go (is_selected p j) e
-        where
-          go : (t : Bool) → v ≡ bit_value t → bit_and m v ≡ bit_value (t && valid_at p.validity p.bit (row_number p j))
-          go true g =
-              let k : n * v ≡ row_number p j = rw (g, mul-one n) d in
-              let y : m ≡ bit_value (valid_at p.validity p.bit (row_number p j)) = f ∙ ap (λ (i : ℕ). bit_value (bit_at p.validity (p.bit + i))) k ∙ ap bit_value (sym (valid_at-present p.validity p.bit (row_number p j) there)) in
-              let z : m % 2 * v ≡ m = rw (g, mul-one (m % 2)) (omega (arith, y, bit_value-lt (valid_at p.validity p.bit (row_number p j)))) in
-              bit-and m v (omega (arith, g)) ∙ z ∙ y
-          go false g = bit-and m v (omega (arith, g)) ∙ rw (g, mul-zero (m % 2))
+    -- the number is masked twice, by a bit that is set only where the first is
+    masked-twice : n * v * bit_and m v ≡ n * bit_and m v
+    masked-twice = go (is_selected p j) e
+      where
+        go : (t : Bool) → v ≡ bit_value t → n * v * bit_and m v ≡ n * bit_and m v
+        go true g = ap (λ (k : ℕ). k * bit_and m v) (rw (g, mul-one n))
+        go false g =
+            let z : bit_and m v ≡ 0 = omega (arith, and_le_r m v, g) in
+            rw (z, mul-zero (n * v), mul-zero n)
 
-      -- the number is masked twice, by a bit that is set only where the first is
-      masked-twice : n * v * bit_and m v ≡ n * bit_and m v
-      masked-twice = go (is_selected p j) e
-        where
-          go : (t : Bool) → v ≡ bit_value t → n * v * bit_and m v ≡ n * bit_and m v
-          go true g = ap (λ (k : ℕ). k * bit_and m v) (rw (g, mul-one n))
-          go false g =
-              let z : bit_and m v ≡ 0 = omega (arith, and_le_r m v, g) in
-              rw (z, mul-zero (n * v), mul-zero n)
-
-      pub row-by-bit : record { row = n * v * bit_and m v; valid = bit_and m v } ≡ taken_row (is_shown p j) (row_number p j)
-      row-by-bit = masked (is_shown p j) (row_number p j) valid-both (masked-twice ∙ ap (λ (i : ℕ). i * bit_and m v) d)
+    pub row-by-bit : record { row = n * v * bit_and m v; valid = bit_and m v } ≡ taken_row (is_shown p j) (row_number p j)
+    row-by-bit = masked (is_shown p j) (row_number p j) valid-both (masked-twice ∙ ap (λ (i : ℕ). i * bit_and m v) d)
 
 -- ---- the offsets of the row t, which are offset 0 twice where it is null
 
@@ -97,9 +77,6 @@ taken-there {w} {offsets} {valid} {n} q {t} e = go valid refl e
 
 -- the same of a number that the bit masks
 module _ {w : ℕ} {offsets : List ℕ} {valid : Bool} {n : ℕ} (q : EntriesThere w offsets valid n) {v : ℕ} (e : v ≡ bit_value valid) where
-  pub shown-low : v ≤ 1
-  shown-low = bit-low valid e
-
   pub shown-there : {m : ℕ} → m ≡ n → TakenThere w offsets valid n (record { row = m * v; valid = v })
   shown-there d = taken-there q (masked valid n e (ap (λ (k : ℕ). k * v) d))
 

@@ -1,109 +1,112 @@
 -- The turns of the loops over the entries E of the output rows. Assumes nothing.
-use mathlib.Core.Path.{◌≡◌, refl, sym, ap, ◌∙◌}
-use mathlib.Core.Bool.{false}
+use mathlib.Core.Path.{◌≡◌, refl, sym, ◌∙◌}
+use mathlib.Core.Bool.{Bool, true, false, cond}
 use mathlib.Core.List.{List}
 use Prim.Native.Nat.{ℕ, suc, ◌+◌, ◌*◌, ◌^◌, ◌≤◌, ◌<◌}
+use native.Mathlib.Nat.{le_refl}
 use native.Mathlib.Numerals.{add-one}
 use native.Mathlib.Omega.{arith}
 use lib.Dec.{ltb}
 use lib.ListN.{length}
-use borrow.Author.Count.{below_more}
-use borrow.Author.Tests.{lt-ltb, le-ltb}
+use Rattle.std.specs.Prelude.{Result, Ok, Err}
+use borrow.Author.Tests.{lt-ltb, le-ltb, ltb-true, ltb-false}
 use Rattle.bits.specs.Sequences.{sum}
 use Rattle.bits.specs.Bytes.{overwrite}
 use Rattle.bits.specs.Routines.{overwrite_at}
 use Rattle.bits.specs.Numbers.{to_little_endian}
-use Rattle.bits.proofs.Bytes.{overwrite-tail, block_inside}
+use Rattle.bits.proofs.Bytes.{overwrite-tail}
 use Rattle.bits.proofs.Numbers.{length-to_little_endian}
-use Rattle.bits.proofs.Sequences.{sum_mono, first-at, first-none, length-blocks}
-use Rattle.lengths.specs.Entries.{Selection}
-use Rattle.lengths.specs.Totals.{CountedTo, total_bytes}
-
--- the buffers of a loop's invariant
-abbrev pub selection_of : List ℕ → ℕ → List ℕ → ℕ → List ℕ → ℕ → Selection
-selection_of v b d w iv ib = record { validity = v; bit = b; index_data = d; width = w; index_validity = iv; index_bit = ib }
+use Rattle.bits.proofs.Sequences.{sum_mono, first-at, first-none, first-le, length-blocks}
+use Rattle.lengths.specs.declared.total.Overflow.{Overflow}
+use Rattle.lengths.specs.Totals.{passing, sum_within, total_bytes}
 
 -- ---- the sum of j rows
 
-pub record Summed (E : ℕ → ℕ) (count total j : ℕ) : Type 0 where
-  pub within : j ≤ count
+pub record Summed (E : ℕ → ℕ) (total j : ℕ) : Type 0 where
   pub counted : total ≡ sum j E
 
-pub summed-none : (E : ℕ → ℕ) (count : ℕ) → Summed E count 0 0
-summed-none E count = record { within = omega arith; counted = refl }
+module _ {E : ℕ → ℕ} {total j : ℕ} (i : Summed E total j) {n : ℕ} (e : n ≡ E j) where
+  next-total : total + n ≡ sum (suc j) E
+  next-total = rw (i.counted, e)
 
-module _ {E : ℕ → ℕ} {count total j : ℕ} (i : Summed E count total j) where
-  module _ (h : j < count) {n : ℕ} (e : n ≡ E j) where
-    next-total : total + n ≡ sum (suc j) E
-    next-total = rw (i.counted, e)
+  pub summed-next : Summed E (total + n) (j + 1)
+  summed-next = record { counted = rw (add-one j) next-total }
 
-    pub summed-fits : sum count E < 2 ^ 64 → total + n < 2 ^ 64
-    summed-fits l = omega (arith, next-total, sum_mono {i = suc j} count E h)
-
-    pub summed-next : Summed E count (total + n) (j + 1)
-    summed-next = record { within = omega arith; counted = rw (add-one j) next-total }
-
-  pub summed-all : count ≤ j → total ≡ sum count E
-  summed-all h = let all : j ≡ count = omega (arith, i.within) in i.counted ∙ ap (λ (n : ℕ). sum n E) all
+  pub summed_fits : {count : ℕ} → j < count → sum count E < 2 ^ 64 → total + n < 2 ^ 64
+  summed_fits {count} h l = omega (arith, next-total, sum_mono {i = suc j} count E h)
 
 -- ---- the first row after which the total is above most
 
-pub record Counting (most : ℕ) (E : ℕ → ℕ) (count total j : ℕ) : Type 0 where
-  pub summed : Summed E count total j
+-- none of the first j is it
+pub record Counting (most : ℕ) (E : ℕ → ℕ) (total j : ℕ) : Type 0 where
+  pub summed : Summed E total j
   pub low : (k : ℕ) → k < j → ltb most (sum (suc k) E) ≡ false
 
-pub counting-none : (most : ℕ) (E : ℕ → ℕ) (count : ℕ) → Counting most E count 0 0
-counting-none most E count = record { summed = summed-none E count; low = λ k h. absurd (omega arith) }
+module _ {most : ℕ} {E : ℕ → ℕ} {total j : ℕ} (i : Counting most E total j) where
+  pub counting_stop : {n count : ℕ} → n ≡ E j → j < count → most < total + n → Err (record { place = j; before = total; after = total + n }) ≡ sum_within most E count
+  unfolding sum_within
+  counting_stop {count = count} e h l =
+      let p : passing most E count ≡ j = first-at count (λ k. ltb most (sum (suc k) E)) j h (lt-ltb most (sum (suc j) E) (omega (arith, next-total i.summed e))) i.low in
+      rw (p, lt-ltb j count h, i.summed.counted, e) refl
 
-module _ {most : ℕ} {E : ℕ → ℕ} {count total j : ℕ} (i : Counting most E count total j) where
-  module _ (h : j < count) {n : ℕ} (e : n ≡ E j) where
-    pub counting-next : total + n ≤ most → Counting most E count (total + n) (j + 1)
-    counting-next l = record {
-      summed = summed-next i.summed h e;
-      low = below_more _ _ i.low (le-ltb most (sum (suc j) E) (omega (arith, next-total i.summed h e)));
-    }
+  pub counting_end : {count : ℕ} → j ≡ count → Ok total ≡ sum_within most E count
+  unfolding sum_within
+  counting_end {count} h =
+      let p : passing most E j ≡ j = first-none j (λ k. ltb most (sum (suc k) E)) i.low in
+      rw (← h, p, le-ltb j j (le_refl j), i.summed.counted) refl
 
-    pub counting-stop : most < total + n → CountedTo most E count (record { place = j; before = total; after = total + n })
-    counting-stop l = record {
-      there = sym (first-at count (λ k. ltb most (sum (suc k) E)) j h (lt-ltb most (sum (suc j) E) (omega (arith, next-total i.summed h e))) i.low);
-      low = i.summed.counted;
-      high = λ b. next-total i.summed h e;
-    }
+-- a sum that is not above most: so is each on the way
+pub sum-within : (most : ℕ) (E : ℕ → ℕ) (count : ℕ) {total : ℕ} → total ≡ sum count E → total ≤ most → Ok total ≡ sum_within most E count
+sum-within most E count {total} e l =
+    let i : Counting most E total count = record {
+      summed = record { counted = e };
+      low = λ k h. le-ltb most (sum (suc k) E) (omega (arith, e, l, sum_mono {i = suc k} count E h));
+    } in
+    counting_end i refl
 
-  pub counting-end : count ≤ j → CountedTo most E count (record { place = j; before = total; after = total })
-  counting-end l =
-      let all : j ≡ count = omega (arith, i.summed.within) in
-      record {
-        there = all ∙ sym (first-none count (λ k. ltb most (sum (suc k) E)) (λ k b. i.low k (omega arith)));
-        low = i.summed.counted;
-        high = λ b. absurd (omega arith);
-      }
+-- ---- what an answer says
+
+module _ (most : ℕ) (E : ℕ → ℕ) (count : ℕ) where
+  abbrev p : ℕ
+  p = passing most E count
+
+  abbrev answer : Bool → Result ℕ Overflow
+  answer t = cond t (Err (record { place = p; before = sum p E; after = sum (suc p) E })) (Ok (sum count E))
+
+  pub within-ok : {s : ℕ} → Ok s ≡ sum_within most E count → (p ≡ count) × (s ≡ sum count E)
+  unfolding sum_within
+  within-ok {s} e = go (ltb p count) refl (sym e)
+    where
+      go : (t : Bool) → ltb p count ≡ t → answer t ≡ Ok s → (p ≡ count) × (s ≡ sum count E)
+      go true d f = absurd cc
+      go false d f = (omega (arith, first-le count (λ k. ltb most (sum (suc k) E)), ltb-false p count d), cc)
+
+  pub within-err : {r : Overflow} → Err r ≡ sum_within most E count → (p < count) × (r ≡ record { place = p; before = sum p E; after = sum (suc p) E })
+  unfolding sum_within
+  within-err {r} e = go (ltb p count) refl (sym e)
+    where
+      go : (t : Bool) → ltb p count ≡ t → answer t ≡ Err r → (p < count) × (r ≡ record { place = p; before = sum p E; after = sum (suc p) E })
+      go true d f = (ltb-true p count d, cc)
+      go false d f = absurd cc
 
 -- ---- the totals before j rows, written over the front of s₀
 
-pub record Started (w : ℕ) (E : ℕ → ℕ) (count : ℕ) (s₀ s : List ℕ) (total j : ℕ) : Type 0 where
-  pub summed : Summed E count total j
+pub record Started (w : ℕ) (E : ℕ → ℕ) (s₀ s : List ℕ) (total j : ℕ) : Type 0 where
+  pub summed : Summed E total j
   pub written : s ≡ overwrite (total_bytes w E j) s₀
-  pub long : length s ≡ length s₀
 
-pub started_none : (w : ℕ) (E : ℕ → ℕ) (count : ℕ) (s : List ℕ) → Started w E count s s 0 0
-started_none w E count s = record { summed = summed-none E count; written = refl; long = refl }
+pub started_none : (w : ℕ) (E : ℕ → ℕ) (s : List ℕ) → Started w E s s 0 0
+started_none w E s = record { summed = record { counted = refl }; written = refl }
 
-module _ {w : ℕ} {E : ℕ → ℕ} {count : ℕ} {s₀ s : List ℕ} {total j : ℕ} (i : Started w E count s₀ s total j) where
-  pub started-room : suc count * w ≤ length s₀ → j * w + w ≤ length s
-  started-room h = omega (arith, i.long, block_inside j (suc count) w (omega (arith, i.summed.within)))
+module _ {w : ℕ} {E : ℕ → ℕ} {s₀ s : List ℕ} {total j : ℕ} (i : Started w E s₀ s total j) {t : List ℕ} where
+  one_more : t ≡ overwrite_at (j * w) (to_little_endian w total) s → t ≡ overwrite (total_bytes w E (suc j)) s₀
+  one_more f =
+      let n : length (total_bytes w E j) ≡ j * w = length-blocks j w (λ k. to_little_endian w (sum k E)) (λ k l. length-to_little_endian w (sum k E)) in
+      f ∙ rw (i.written, i.summed.counted) (overwrite-tail (total_bytes w E j) (to_little_endian w (sum j E)) s₀ (j * w) n)
 
-  module _ {t : List ℕ} (f : t ≡ overwrite_at (j * w) (to_little_endian w total) s) where
-    one_more : t ≡ overwrite (total_bytes w E (j + 1)) s₀
-    one_more =
-        let n : length (total_bytes w E j) ≡ j * w = length-blocks j w (λ k. to_little_endian w (sum k E)) (λ k l. length-to_little_endian w (sum k E)) in
-        f ∙ rw (i.written, i.summed.counted, add-one j) (overwrite-tail (total_bytes w E j) (to_little_endian w (sum j E)) s₀ (j * w) n)
+  pub started-next : t ≡ overwrite_at (j * w) (to_little_endian w total) s → {n : ℕ} → n ≡ E j → Started w E s₀ t (total + n) (j + 1)
+  started-next f e = record { summed = summed-next i.summed e; written = rw (add-one j) (one_more f) }
 
-    pub started-next : j < count → {n : ℕ} → n ≡ E j → length t ≡ length s → Started w E count s₀ t (total + n) (j + 1)
-    started-next h e l = record { summed = summed-next i.summed h e; written = one_more; long = l ∙ i.long }
-
-    -- the last one is the total
-    pub started-all : count ≤ j → t ≡ overwrite (total_bytes w E (suc count)) s₀
-    started-all h =
-        let all : j + 1 ≡ suc count = omega (arith, i.summed.within) in
-        one_more ∙ ap (λ (n : ℕ). overwrite (total_bytes w E n) s₀) all
+  -- the last one is the total
+  pub started-all : {count : ℕ} → j ≡ count → t ≡ overwrite_at (count * w) (to_little_endian w total) s → t ≡ overwrite (total_bytes w E (suc count)) s₀
+  started-all h f = rw (← h) (one_more (f ∙ rw h refl))

@@ -2,5 +2,5 @@
 // are read. No loop has a branch on a row's validity: it cannot be guessed.
 #![tactic(auto)]
 
-mod row; // row.rt: one output row
+pub mod row; // row.rt: what selects the output rows, and one of them
 pub mod total; // total.rt: the sum of all, the first row past a limit, and the offsets of the output

@@ -9,12 +9,12 @@ use lib.Bits.{bit_and, and_mask}
 use lib.Dec.{leb, ltb}
 use lib.ListN.{length, take, drop, replicate, length-append, length-replicate}
 use lib.Pow.{mod-mod-pow, field}
-use lib.Seq.{length-take-le, take-take, take-append-le, take-append-add, drop-append-add, drop-drop, take_at}
-use borrow.Author.Tests.{leb-true, ltb-true, lt-ltb, le-ltb}
+use lib.Seq.{length-take-le, take-take, take-append-le, take-append-add, take_at}
+use borrow.Author.Tests.{leb-true, ltb-true}
 use Rattle.bits.specs.Bytes.{part, overwrite}
 use Rattle.bits.specs.Routines.{overwrite_at}
 use Rattle.bits.specs.Numbers.{little_endian, to_little_endian}
-use Rattle.bits.proofs.Tests.{and-true, and-false-right}
+use Rattle.bits.proofs.Tests.{and-true}
 use Rattle.bits.proofs.Numbers.{AllBytes, to_little_endian-part}
 use Rattle.rows.specs.Front.{padded, front_bytes}
 
@@ -43,24 +43,6 @@ masked n s d {x} {mask} b h l e g k =
     k
     ∙ ap (λ (z : ℕ). overwrite (to_little_endian 8 z) d) low
     ∙ ap (λ (t : List ℕ). overwrite t d) (kept_of n 8 x (omega arith) ∙ ap (λ (t : List ℕ). t ++ replicate (8 - n) 0) first)
-
--- ---- the length classes, where the source is cut to what may be read
-
-cut : (n r : ℕ) (s : List ℕ) → n ≤ r → take n (part 0 (r - 0) s) ≡ take n s
-cut n r s h = take-take n (r - 0) s (omega arith)
-
-module _ (n r w : ℕ) (s d : List ℕ) (h : n ≤ r) {y : List ℕ} where
-  pub front-masked : n < 8 → (leb 8 r && leb 8 w) ≡ true → y ≡ overwrite (padded n (part 0 (r - 0) s)) d → y ≡ overwrite (front_bytes n r w s) d
-  unfolding front_bytes
-  front-masked l t e = e ∙ ap (λ (f : List ℕ). overwrite (f ++ replicate (8 - n) 0) d) (cut n r s h) ∙ rw (lt-ltb n 8 l, t)
-
-  pub front-narrow : (leb 8 r && leb 8 w) ≡ false → y ≡ overwrite (take n (part 0 (r - 0) s)) d → y ≡ overwrite (front_bytes n r w s) d
-  unfolding front_bytes
-  front-narrow t e = e ∙ ap (λ (f : List ℕ). overwrite f d) (cut n r s h) ∙ rw (and-false-right (ltb n 8) t)
-
-  pub front-wide : 8 ≤ n → y ≡ overwrite (take n (part 0 (r - 0) s)) d → y ≡ overwrite (front_bytes n r w s) d
-  unfolding front_bytes
-  front-wide l e = e ∙ ap (λ (f : List ℕ). overwrite f d) (cut n r s h) ∙ rw (le-ltb n 8 l)
 
 -- ---- what is written begins with the bytes of the row, and is no longer than may be written
 
@@ -104,17 +86,3 @@ module _ (p : ℕ) (e s : List ℕ) (h : p ≤ length s) where
       ap (λ (k : ℕ). take (k + n) (overwrite_at p e s)) (sym before)
       ∙ take-append-add (take p s) (overwrite e (drop p s)) n
       ∙ ap (λ (t : List ℕ). take p s ++ t) (take-append-le n e (drop (length e) (drop p s)) l)
-
-  -- those after stay too
-  pub written-rest : (q : ℕ) → p + length e ≤ q → drop q (overwrite_at p e s) ≡ drop q s
-  written-rest q l =
-      let k : ℕ = q - (p + length e) in
-      let m : q ≡ length (take p s) + (length e + k) = omega (arith, before) in
-      let i : length e + k + p ≡ q = omega arith in
-      let o : p + (length e + k) ≡ q = omega arith in
-      ap (λ (j : ℕ). drop j (overwrite_at p e s)) m
-      ∙ drop-append-add (take p s) (overwrite e (drop p s)) (length e + k)
-      ∙ drop-append-add e (drop (length e) (drop p s)) k
-      ∙ drop-drop k (length e) (drop p s)
-      ∙ drop-drop (length e + k) p s
-      ∙ ap (λ (j : ℕ). drop j s) o

@@ -30,6 +30,10 @@ sources_at u ow w d o x s = record {
   out_offsets = s.now;
 }
 
+-- the same in the struct that the code passes, where an offset has ow bytes
+abbrev pub sources_of : ℕ → Rattle.rows.specs.declared.row.Sources.Sources → Sources
+sources_of ow s = sources_at s.unit ow s.index_width s.«data» s.offsets s.index_data s.out_offsets
+
 -- output row j goes to the running total, and comes from the offset of the row that its index names
 abbrev pub row_at : Sources → ℕ → ℕ
 row_at b j = number_at b.offset_width b.out_offsets j * b.unit
@@ -43,13 +47,13 @@ row_length b j = row_at b (j + 1) - row_at b j
 unfoldable pub row_bytes : Sources → ℕ → List ℕ
 row_bytes b j = part (row_from b j) (row_length b j) b.«data»
 
--- s with output row j written, of whose source so many bytes are needed and of which so many are used
-unfoldable pub written_row : Sources → ℕ → ℕ → ℕ → List ℕ → List ℕ
-written_row b needed used j s =
-    overwrite_at (row_at b j) (front_bytes (row_length b j) (needed - row_from b j) (used - row_at b j) (drop (row_from b j) b.«data»)) s
+-- s with output row j written, where all of the data may be read and all of s be written
+unfoldable pub written_row : Sources → ℕ → List ℕ → List ℕ
+written_row b j s =
+    overwrite_at (row_at b j) (front_bytes (row_length b j) (length b.«data» - row_from b j) (length s - row_at b j) (drop (row_from b j) b.«data»)) s
 
--- row j is there: in the needed bytes of the data, and in the used ones of an output
-pub record RowThere (b : Sources) (needed used j : ℕ) : Type 0 where
+-- row j is there: in the data, and in an output of so many bytes
+pub record RowThere (b : Sources) (room j : ℕ) : Type 0 where
   pub few : j < 2 ^ 60
   pub offset_width : is_number_width b.offset_width ≡ true
   pub index_width : is_number_width b.index_width ≡ true
@@ -58,12 +62,11 @@ pub record RowThere (b : Sources) (needed used j : ℕ) : Type 0 where
   pub started : j * b.offset_width + b.offset_width ≤ length b.out_offsets
   pub ended : (j + 1) * b.offset_width + b.offset_width ≤ length b.out_offsets
   pub rises : row_at b j ≤ row_at b (j + 1)
-  pub ends : row_at b (j + 1) ≤ used
-  pub read : row_from b j + row_length b j ≤ needed
-  pub source : needed ≤ length b.«data»
+  pub ends : row_at b (j + 1) ≤ room
+  pub read : row_from b j + row_length b j ≤ length b.«data»
 
 -- the rows are there whose bits are set in `valid`, spare bits being 0; the others are as long as nothing
-pub record CopyReady (b : Sources) (valid : List ℕ) (needed used count : ℕ) : Type 0 where
+pub record CopyReady (b : Sources) (valid : List ℕ) (count : ℕ) : Type 0 where
   pub few : count < 2 ^ 60
   pub offset_width : is_number_width b.offset_width ≡ true
   pub index_width : is_number_width b.index_width ≡ true
@@ -73,17 +76,13 @@ pub record CopyReady (b : Sources) (valid : List ℕ) (needed used count : ℕ) 
   pub started : (count + 1) * b.offset_width ≤ length b.out_offsets
   pub first : row_at b 0 ≡ 0
   pub rises : (j : ℕ) → j < count → row_at b j ≤ row_at b (j + 1)
-  pub last : row_at b count ≡ used
   pub empty : (j : ℕ) → j < count → bit_at valid j ≡ false → row_at b (j + 1) ≡ row_at b j
   pub found : (j : ℕ) → j < count → bit_at valid j ≡ true → number_at b.index_width b.index_data j * b.offset_width + b.offset_width ≤ length b.offsets
-  pub read : (j : ℕ) → j < count → bit_at valid j ≡ true → row_from b j + row_length b j ≤ needed
-  pub source : needed ≤ length b.«data»
+  pub read : (j : ℕ) → j < count → bit_at valid j ≡ true → row_from b j + row_length b j ≤ length b.«data»
 
--- the first j rows are at the front of s, and after the used bytes it is as s₀ was
-pub record RowsCopied (b : Sources) (used : ℕ) (s₀ s : List ℕ) (j : ℕ) : Type 0 where
+-- the first j rows are at the front of s
+pub record RowsCopied (b : Sources) (s : List ℕ) (j : ℕ) : Type 0 where
   pub front : take (row_at b j) s ≡ concat j (row_bytes b)
-  pub rest : drop used s ≡ drop used s₀
-  pub long : length s ≡ length s₀
 
 -- ---- the validity, a word of 8 bytes at a time
 

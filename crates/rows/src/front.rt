@@ -17,20 +17,19 @@ fn copy_masked(src: &[u8], n: usize, dst: &mut [u8])
     write_u64(dst, 0, x);
 }
 
-// The first n bytes of src into the front of dst. No byte of src past the first `readable` is read, and none of dst past the first `writable` is written.
-pub fn copy_front(src: &[u8], n: usize, readable: usize, dst: &mut [u8], writable: usize)
-    requires readable { (n ≤ readable) × (readable ≤ length src.now) }
-    requires writable { (n ≤ writable) × (writable ≤ length dst.old) }
-    ensures { dst.new ≡ overwrite (front_bytes n readable writable src.now) dst.old }
+// The first n bytes of src into the front of dst. All of src may be read, and all of dst be written.
+#[tactic(auto, unfolding(crate::specs::Front::front_bytes))]
+pub fn copy_front(src: &[u8], n: usize, dst: &mut [u8])
+    requires { (n ≤ length src.now) × (n ≤ length dst.old) }
+    ensures { dst.new ≡ overwrite (front_bytes n (length src.now) (length dst.old) src.now) dst.old }
 {
-    let front = &src[0..readable];
     if n < 8 {
-        if (8 <= readable) & (8 <= writable) {
-            copy_masked(front, n, dst);
+        if (8 <= src.len()) & (8 <= dst.len()) {
+            copy_masked(src, n, dst);
             return;
         }
-        copy_narrow(front, n, dst);
+        copy_narrow(&src[..n], dst);
         return;
     }
-    copy_wide(front, n, dst);
+    copy_wide(&src[..n], dst);
 }

@@ -1,48 +1,110 @@
 // The valid rows, which the bits of the output's validity name, from the lowest on. Null rows have no bytes, so nothing is done for them and no branch
-// asks for them. `needed` counts the bytes of the data that the offsets need, `used` those of the output that the rows do.
-ghost use Rattle.std.specs.Prelude.{◌≡◌, ◌+◌, ◌-◌, ◌*◌, ◌≤◌, ◌<◌, length};
+// asks for them. Nothing is read or written but the data and the output as they are lent: the caller cuts the data to what the offsets need, and here the
+// output is cut to what the rows use.
+ghost use Rattle.std.specs.Prelude.{◌≡◌, true, ◌+◌, ◌-◌, ◌*◌, ◌^◌, ◌≤◌, ◌<◌, length};
 ghost use Rattle.bits.specs.Sequences.{concat};
 ghost use Rattle.bits.specs.Bytes.{part, overwrite};
-ghost use Rattle.bits.specs.Numbers.{little_endian};
+ghost use Rattle.bits.specs.Numbers.{little_endian, is_number_width};
 ghost use Rattle.bits.specs.Bits.{bytes_for};
-ghost use Rattle.rows.specs.Rows.{sources_at, row_at, row_bytes, written_row, RowThere, CopyReady, RowsCopied, rows_to};
+ghost use Rattle.rows.specs.Rows.{sources_of, row_at, row_bytes, written_row, RowThere, CopyReady, RowsCopied, rows_to};
 
 use crate::front::copy_front;
-use bits::number::{number_at, read_u64, wide};
+use bits::number::{number_at, read_u64};
 
-// Output row j, which is valid. The bytes before it stay; those after it may become zeros as far as they are used, and are written later.
-fn copy_row(
-    data: &[u8],
-    needed: usize,
-    offsets: &[u8],
-    ow: usize,
-    index_data: &[u8],
-    w: usize,
-    unit: usize,
-    out_offsets: &[u8],
-    out_data: &mut [u8],
-    used: usize,
-    j: usize,
-)
-    requires row_there { RowThere (sources_at unit ow w «data» offsets index_data out_offsets) needed used j }
-    requires room { used ≤ length out_data.old }
-    ensures { out_data.new
-        ≡ written_row (sources_at unit ow w «data».entry offsets.entry index_data.entry out_offsets.entry) needed used j out_data.old }
-{
-    let at = number_at(out_offsets, ow, j) as usize * unit;
-    let end = number_at(out_offsets, ow, j + 1) as usize * unit;
-    let row = number_at(index_data, w, j) as usize;
-    let from = number_at(offsets, ow, row) as usize * unit;
-    copy_front(
-        &data[from..],
-        end - at,
-        needed - from,
-        &mut out_data[at..],
-        used - at,
-    );
+// What the rows are copied by: the data and its offsets, an entry of `unit` bytes, the indices, of `index_width` bytes, and the offsets of the output.
+#[derive(Clone, Copy)]
+pub struct Sources<'a> {
+    pub unit: usize,
+    pub data: &'a [u8],
+    pub offsets: &'a [u8],
+    pub index_width: usize,
+    pub index_data: &'a [u8],
+    pub out_offsets: &'a [u8],
+}
+
+impl Sources<'_> {
+    // Where output row j starts. An offset has OW bytes.
+    fn row_at<const OW: usize>(&self, j: usize) -> usize
+        requires there { (is_number_width OW ≡ true) × (j * OW + OW ≤ length self.now.out_offsets.now) }
+        requires fits { row_at (sources_of OW self.now) j < 2 ^ 64 }
+        ensures { result ≡ row_at (sources_of OW self.now) j }
+    {
+        number_at(self.out_offsets, OW, j) as usize * self.unit
+    }
+
+    // Output row j, which is valid. The bytes before it stay; those after it may become zeros, and are written later.
+    fn copy_row<const OW: usize>(&self, out_data: &mut [u8], j: usize)
+        requires { RowThere (sources_of OW self.now) (length out_data.old) j }
+        ensures { out_data.new ≡ written_row (sources_of OW self.now) j out_data.old }
+    {
+        let at = self.row_at::<OW>(j);
+        let end = self.row_at::<OW>(j + 1);
+        let row = number_at(self.index_data, self.index_width, j) as usize;
+        let from = number_at(self.offsets, OW, row) as usize * self.unit;
+        copy_front(&self.data[from..], end - at, &mut out_data[at..]);
+    }
+
+    // The valid rows of the word at byte k of the validity.
+    fn copy_word<const OW: usize>(
+        &self,
+        out_validity: &[u8],
+        count: usize,
+        out_data: &mut [u8],
+        k: usize,
+    )
+        requires copy_ready { CopyReady (sources_of OW self.now) out_validity.now count }
+        requires word_there { (row_at (sources_of OW self.now) count ≡ length out_data.old) × (k < bytes_for count) }
+        requires rows_copied { RowsCopied (sources_of OW self.now) out_data.old (8 * k) }
+        ensures { RowsCopied (sources_of OW self.now) out_data.new (rows_to count (k + 8)) }
+    {
+        let mut word = word_at(out_validity, k, (count + 7) / 8);
+        let mut j = 8 * k;
+        // A turn goes to the next bit that is set, which no range counts.
+        while word != 0 {
+            let t = word.trailing_zeros() as usize;
+            j += t;
+            self.copy_row::<OW>(out_data, j);
+            word = word >> t >> 1;
+            j += 1;
+        }
+    }
+
+    // All words.
+    fn copy_words<const OW: usize>(&self, out_validity: &[u8], count: usize, out_data: &mut [u8])
+        requires copy_ready { CopyReady (sources_of OW self.now) out_validity.now count }
+        requires room { row_at (sources_of OW self.now) count ≡ length out_data.old }
+        ensures { out_data.new ≡ concat count (row_bytes (sources_of OW self.now)) }
+    {
+        let bytes = (count + 7) / 8;
+        for k in (0..bytes).step_by(8) {
+            self.copy_word::<OW>(out_validity, count, out_data, k);
+        }
+    }
+
+    // All valid rows, a word of their bits at a time: each offset width has a loop of its own. (In line, its registers would be taken from the loop over the
+    // offsets before it.)
+    #[inline(never)]
+    pub fn copy_rows<const OW: usize>(&self, out_validity: &[u8], count: usize, out_data: &mut [u8])
+        requires copy_ready { CopyReady (sources_of OW self.now) out_validity.now count }
+        requires room { row_at (sources_of OW self.now) count ≤ length out_data.old }
+        ensures { out_data.new ≡ overwrite (concat count (row_bytes (sources_of OW self.now))) out_data.old }
+    {
+        // field by field, and each slice cut anew: of the whole, or of a slice as it lies there, a core without unaligned accesses makes a call of `memcpy`
+        let sources = Sources {
+            unit: self.unit,
+            data: &self.data[..],
+            offsets: &self.offsets[..],
+            index_width: self.index_width,
+            index_data: &self.index_data[..],
+            out_offsets: &self.out_offsets[..],
+        };
+        let used = sources.row_at::<OW>(count);
+        sources.copy_words::<OW>(out_validity, count, &mut out_data[..used]);
+    }
 }
 
 // The number of the bytes from k up to n, of which it takes at most 8: the validity of up to 64 rows.
+#[tactic(auto, using(bits::proofs::Numbers::number_down))]
 fn word_at(valid: &[u8], k: usize, n: usize) -> u64
     requires { (k ≤ n) × (n ≤ length valid.now) }
     ensures { result ≡ little_endian (part k (8 - (8 - (n - k))) valid.now) }
@@ -51,98 +113,8 @@ fn word_at(valid: &[u8], k: usize, n: usize) -> u64
         return read_u64(valid, k);
     }
     let mut word: u64 = 0;
-    let mut i = n;
-    while k < i {
-        i -= 1;
-        word = word * 256 + wide(valid[i]);
+    for i in (k..n).rev() {
+        word = word * 256 + u64::from(valid[i]);
     }
     word
-}
-
-// The valid rows of the word at byte k of the validity.
-fn copy_word(
-    data: &[u8],
-    needed: usize,
-    offsets: &[u8],
-    ow: usize,
-    index_data: &[u8],
-    w: usize,
-    unit: usize,
-    out_validity: &[u8],
-    count: usize,
-    out_offsets: &[u8],
-    out_data: &mut [u8],
-    used: usize,
-    k: usize,
-)
-    requires copy_ready { CopyReady (sources_at unit ow w «data» offsets index_data out_offsets) out_validity.now needed used count }
-    requires word_there { (used ≤ length out_data.old) × (k < bytes_for count) }
-    requires rows_copied { RowsCopied (sources_at unit ow w «data» offsets index_data out_offsets) used out_data.old out_data.old (8 * k) }
-    ensures { RowsCopied (sources_at unit ow w «data».entry offsets.entry index_data.entry out_offsets.entry) used
-        out_data.old out_data.new (rows_to count (k + 8)) }
-{
-    let mut word = word_at(out_validity, k, (count + 7) / 8);
-    let mut j = 8 * k;
-    while word != 0 {
-        let t = u64::trailing_zeros(word) as usize;
-        j += t;
-        copy_row(
-            data,
-            needed,
-            offsets,
-            ow,
-            index_data,
-            w,
-            unit,
-            out_offsets,
-            out_data,
-            used,
-            j,
-        );
-        word = word >> t >> 1;
-        j += 1;
-    }
-}
-
-// All valid rows, a word of their bits at a time. ow is a literal at the call, so that each offset width has a loop of its own.
-pub fn copy_rows(
-    data: &[u8],
-    needed: usize,
-    offsets: &[u8],
-    ow: usize,
-    index_data: &[u8],
-    w: usize,
-    unit: usize,
-    out_validity: &[u8],
-    count: usize,
-    out_offsets: &[u8],
-    out_data: &mut [u8],
-)
-    requires copy_ready { CopyReady (sources_at unit ow w «data» offsets index_data out_offsets) out_validity.now needed
-        (row_at (sources_at unit ow w «data» offsets index_data out_offsets) count) count }
-    requires room { row_at (sources_at unit ow w «data» offsets index_data out_offsets) count ≤ length out_data.old }
-    ensures { out_data.new
-        ≡ overwrite (concat count (row_bytes (sources_at unit ow w «data».entry offsets.entry index_data.entry out_offsets.entry))) out_data.old }
-{
-    let used = number_at(out_offsets, ow, count) as usize * unit;
-    let bytes = (count + 7) / 8;
-    let mut k = 0;
-    while k < bytes {
-        copy_word(
-            data,
-            needed,
-            offsets,
-            ow,
-            index_data,
-            w,
-            unit,
-            out_validity,
-            count,
-            out_offsets,
-            out_data,
-            used,
-            k,
-        );
-        k += 8;
-    }
 }

@@ -1,11 +1,12 @@
 -- What refusal 6 says of the sum of the entries of all output rows, and of the first row after which their total is above the largest offset. Assumes nothing.
 use mathlib.Core.Path.{◌≡◌, refl, sym, ap, ◌∙◌}
+use Rattle.std.specs.Prelude.{Ok, Err}
 use mathlib.Core.Bool.{Bool, true, false, cond, true≢false}
-use Prim.Native.Nat.{ℕ, zero, suc, ◌*◌, ◌^◌, ◌≤◌, ◌<◌}
+use Prim.Native.Nat.{ℕ, suc, ◌*◌, ◌^◌, ◌<◌}
 use native.Mathlib.Nat.{le_refl, zero-mul}
 use native.Mathlib.Omega.{arith}
 use lib.Dec.{eqb, ltb}
-use borrow.Author.Tests.{le-ltb, ltb-true, ltb-false, eqb-true, eq-eqb}
+use borrow.Author.Tests.{le-ltb, eqb-true, eq-eqb}
 use Rattle.bits.specs.Sequences.{sum, first}
 use Rattle.tables.specs.declared.table.Kind.{Kind}
 use Rattle.tables.specs.declared.table.Layout.TheVariants.{VariableWidth}
@@ -17,13 +18,14 @@ use Rattle.gathers.specs.Gather.{overflow_at, overflow_total}
 use Rattle.gathers.specs.Stages.{measured}
 use Rattle.gathers.specs.Ready.{Ready}
 use Rattle.gathers.specs.Buffers.{taken_entries}
-use Rattle.bits.proofs.Sequences.{sum-cong, sum_mono, sum-zero, first_cong, first-before, first-none}
+use Rattle.bits.proofs.Sequences.{sum-cong, sum-zero, first_cong, first-none}
 use Rattle.tables.proofs.Views.{kind_at-number}
 use Rattle.gathers.proofs.VariableRows.{taken-below, entries-null, total-small, overflow-narrow, overflow-wide, variable-fit, variable-over}
-use Rattle.lengths.specs.declared.total.Counted.{Counted}
-use Rattle.lengths.specs.Totals.{selected_entries, CountedTo}
+use Rattle.lengths.specs.declared.total.Overflow.{Overflow}
+use Rattle.lengths.specs.Totals.{selected_entries, passing, sum_within}
+use Rattle.lengths.proofs.Running.{within-ok, within-err}
 use Rattle.variable.specs.Measured.{largest_offset}
-use Rattle.variable.proofs.Reading.{selection_of, is_taken, selected-entries, selected-sum}
+use Rattle.variable.proofs.Reading.{selection_of, is_taken, selected-entries}
 
 module _ {u : ℕ} {c : Column} {x : IndexColumn} (r : Ready c x) (e : layout_at c ≡ VariableWidth u) where
   abbrev w : ℕ
@@ -50,55 +52,51 @@ module _ {u : ℕ} {c : Column} {x : IndexColumn} (r : Ready c x) (e : layout_at
           (λ j h. le-ltb 18_446_744_073_709_551_615 (sum (suc j) E) (omega (arith, (total-small c x u e r (suc j) h).0)))
           ∙ sym (overflow-wide c x u e (λ f. true≢false (sym (eq-eqb w 4 f) ∙ d)))
 
-  -- a sum that is at most the largest offset: so is each total on the way
-  fits : {s : ℕ} → s ≡ sum count E → s ≤ largest_offset w → refuse 0 0 (s * u) ≡ measured (taken c x)
-  fits {s} d l =
-      let none : first count (over (largest_offset w)) ≡ count =
-      first-none count (over (largest_offset w)) (λ j h. le-ltb (largest_offset w) (sum (suc j) E) (omega (arith, d, l, sum_mono count E h))) in
-      variable-fit c x u e (sym overflow-first ∙ none) (ap (λ (t : ℕ). t * u) d)
+  -- where there is none, the rows need the bytes of all entries
+  fits : {s : ℕ} → s ≡ sum count E → first count (over (largest_offset w)) ≡ count → refuse 0 0 (s * u) ≡ measured (taken c x)
+  fits d none = variable-fit c x u e (sym overflow-first ∙ none) (ap (λ (t : ℕ). t * u) d)
 
   -- of no rows every output row is null
   pub no_rows : c.table.rows ≡ 0 → refuse 0 0 0 ≡ measured (taken c x)
   no_rows z =
       let none : (j : ℕ) → j < count → E j ≡ 0 = λ j h. go j h (is_taken c x j) refl in
-      ap (refuse 0 0) (sym (zero-mul u)) ∙ fits (sym (sum-zero count E none)) (omega arith)
+      let zeros : (j : ℕ) → j < count → sum (suc j) E ≡ 0 = λ j h. sum-zero (suc j) E (λ i l. none i (omega arith)) in
+      ap (refuse 0 0) (sym (zero-mul u))
+      ∙ fits (sym (sum-zero count E none)) (first-none count (over (largest_offset w)) (λ j h. le-ltb (largest_offset w) (sum (suc j) E) (omega (arith, zeros j h))))
     where
       go : (j : ℕ) → j < count → (t : Bool) → is_taken c x j ≡ t → E j ≡ 0
       go j h true d = absurd (omega (arith, taken-below c x u e r j h d))
       go j h false d = entries-null c x u j d
 
-  -- the sum as it is read
-  module _ {s : ℕ} (d : s ≡ sum count (selected_entries w c.offsets (selection_of c x))) where
+  -- the entries as they are read
+  abbrev read : ℕ → ℕ
+  read = selected_entries w c.offsets (selection_of c x)
+
+  totals : (i : ℕ) → sum i read ≡ sum i E
+  totals i = sum-cong i (λ j h. selected-entries u c x j)
+
+  place : (most : ℕ) → passing most read count ≡ first count (over most)
+  place most = first_cong count (λ j h. ap (ltb most) (totals (suc j)))
+
+  module _ (most : ℕ) {s : ℕ} (k : Ok s ≡ sum_within most read count) where
     sum-read : s ≡ sum count E
-    sum-read = d ∙ selected-sum r e
+    sum-read = (within-ok most read count k).1 ∙ totals count
 
     pub bytes_fit : s * u < 2 ^ 64
     bytes_fit = rw sum-read (omega (arith, (total-small c x u e r count (le_refl count)).1))
 
-    module _ {most : ℕ} (m : most ≡ largest_offset w) where
-      pub sum-fit : s ≤ most → refuse 0 0 (s * u) ≡ measured (taken c x)
-      sum-fit l = fits sum-read (omega (arith, m))
+    pub sum-fit : most ≡ largest_offset w → refuse 0 0 (s * u) ≡ measured (taken c x)
+    sum-fit m = fits sum-read (sym (place (largest_offset w)) ∙ ap (λ (n : ℕ). passing n read count) (sym m) ∙ (within-ok most read count k).0)
 
-      -- where it is above, so is some total: the count stops at the row of refusal 6
-      module _ (l : most < s) {p : Counted} (k : CountedTo most (selected_entries w c.offsets (selection_of c x)) count p) where
-        totals : (i : ℕ) → sum i (selected_entries w c.offsets (selection_of c x)) ≡ sum i E
-        totals i = sum-cong i (λ j h. selected-entries u c x j)
-
-        place : p.place ≡ first count (over most)
-        place = k.there ∙ first_cong count (λ j h. ap (ltb most) (totals (suc j)))
-
-        some-over : (i : ℕ) → count ≡ i → count ≤ first count (over most) → ⊥
-        some-over zero q h = omega (arith, sum-read, l, ap (λ (z : ℕ). sum z E) q)
-        some-over (suc j) q h = omega (arith, ltb-false most (sum (suc j) E) (first-before count (over most) j (omega arith)), sum-read, l, ap (λ (z : ℕ). sum z E) q)
-
-        stops : p.place < count
-        stops = rw place (go (ltb (first count (over most)) count) refl)
-          where
-            go : (t : Bool) → ltb (first count (over most)) count ≡ t → first count (over most) < count
-            go true f = ltb-true (first count (over most)) count f
-            go false f = absurd (some-over count refl (ltb-false (first count (over most)) count f))
-
-        pub sum_over : {kind : Kind} {t : ℕ} → kind ≡ kind_of c.table.kind → t ≡ overflow_total kind p.after p.before → refuse 6 p.place t ≡ measured (taken c x)
-        sum_over f g =
-            ap (refuse 6 p.place) (g ∙ ap (λ (a : Kind). overflow_total a p.after p.before) (f ∙ sym (kind_at-number c)))
-            ∙ variable-over c x u e (sym (place ∙ ap (λ (n : ℕ). first count (over n)) m ∙ overflow-first)) stops (k.high stops ∙ totals (suc p.place)) (k.low ∙ totals p.place)
+  -- the row where the count stopped is that of refusal 6
+  pub sum_over : {most : ℕ} {p : Overflow} → Err p ≡ sum_within most read count → most ≡ largest_offset w → {kind : Kind} {t : ℕ}
+      → kind ≡ kind_of c.table.kind → t ≡ overflow_total kind p.after p.before → refuse 6 p.place t ≡ measured (taken c x)
+  sum_over {most} {p} k m f g =
+      let q : ℕ = passing most read count in
+      let a = within-err most read count k in
+      let here : q ≡ overflow_at (layout_at c) (taken c x) = place most ∙ ap (λ (n : ℕ). first count (over n)) m ∙ overflow-first in
+      let stop : p.place ≡ q = ap (λ (o : Overflow). o.place) a.1 in
+      ap (refuse 6 p.place) (g ∙ ap (λ (b : Kind). overflow_total b p.after p.before) (f ∙ sym (kind_at-number c)))
+      ∙ variable-over c x u e (sym here ∙ sym stop) (omega (arith, stop, a.0))
+      (ap (λ (o : Overflow). o.after) a.1 ∙ totals (suc q) ∙ ap (λ (n : ℕ). sum (suc n) E) (sym stop))
+      (ap (λ (o : Overflow). o.before) a.1 ∙ totals q ∙ ap (λ (n : ℕ). sum n E) (sym stop))

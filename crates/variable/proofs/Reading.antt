@@ -24,7 +24,7 @@ use Rattle.tables.proofs.Offsets.{VariableFacts, rises}
 use Rattle.tables.proofs.Views.{offset_at-number}
 use Rattle.gathers.proofs.Buffers.{valid-below, validates-bit, valid-null, valid-by-bit, valid-by-index, bit-named}
 use Rattle.gathers.proofs.VariableRows.{ready-facts, taken-below, entries-valid, entries-null, total-small}
-use Rattle.lengths.specs.Entries.{Selection, row_number, is_selected, is_shown, entries_at, SelectionThere, EntriesThere}
+use Rattle.lengths.specs.Entries.{Selection, Shown, row_number, is_selected, is_shown, entries_at, SelectionThere, EntriesThere}
 use Rattle.lengths.specs.Totals.{selected_entries, shown_entries, SelectedThere, ShownThere}
 use Rattle.lengths.proofs.Masking.{entries_at-valid, entries_at-null}
 
@@ -37,6 +37,16 @@ selection_of c x = record {
   width = x.indices.width;
   index_validity = x.validity;
   index_bit = x.indices.validity_bit;
+}
+
+-- and by the validity s of the output rows, once it is written
+abbrev pub shown_of : Column → IndexColumn → List ℕ → Shown
+shown_of c x s = record {
+  offset_width = c.table.offset_width;
+  offsets = c.offsets;
+  index_width = x.indices.width;
+  index_data = x.«data»;
+  validity = s;
 }
 
 -- output row j is valid
@@ -79,7 +89,7 @@ module _ (u : ℕ) (c : Column) (x : IndexColumn) (j : ℕ) where
   selected-entries = entries_by (shown-taken c x j) (sym (index_number x j))
 
   pub shown-entries : {s : List ℕ} → Validates c.validity c.table.validity_bit x s → j < x.indices.count
-      → shown_entries w c.offsets x.indices.width x.«data» s j ≡ taken_entries c x j
+      → shown_entries (shown_of c x s) j ≡ taken_entries c x j
   shown-entries v h = entries_by (validates-bit v j h) (sym (index_number x j))
 
 module _ {u : ℕ} {c : Column} {x : IndexColumn} (r : Ready c x) (e : layout_at c ≡ VariableWidth u) where
@@ -137,11 +147,10 @@ module _ {u : ℕ} {c : Column} {x : IndexColumn} (r : Ready c x) (e : layout_at
 
   -- by the validity that is written
   module _ {s : List ℕ} (v : Validates c.validity c.table.validity_bit x s) where
-    pub shown-sum : (i : ℕ) → i ≤ x.indices.count
-        → sum i (shown_entries c.table.offset_width c.offsets x.indices.width x.«data» s) ≡ sum i (taken_entries c x)
+    pub shown-sum : (i : ℕ) → i ≤ x.indices.count → sum i (shown_entries (shown_of c x s)) ≡ sum i (taken_entries c x)
     shown-sum i h = sum-cong i (λ j l. shown-entries u c x j v (omega arith))
 
-    pub shown-there : ShownThere c.table.offset_width c.offsets x.indices.width x.«data» s x.indices.count
+    pub shown-there : ShownThere (shown_of c x s) x.indices.count
     shown-there = record {
       few = omega (arith, index-facts.count);
       offset_width = offset-number;

@@ -6,7 +6,8 @@ use Prim.Native.Nat.{ℕ, suc, ◌+◌, ◌-◌, ◌*◌, ◌≤◌, ◌<◌}
 use native.Mathlib.Nat.{add-mul, le_trans, mul_comm, mul-sub, mul-le-mul_right, zero-mul}
 use native.Mathlib.Numerals.{add-one}
 use native.Mathlib.Omega.{arith}
-use lib.ListN.{length, drop}
+use lib.ListN.{length, take, drop}
+use lib.Seq.{length-take-le}
 use Rattle.bits.specs.Sequences.{concat, sum}
 use Rattle.bits.specs.Bytes.{part, overwrite}
 use Rattle.bits.specs.Numbers.{number_at, to_little_endian}
@@ -14,6 +15,7 @@ use Rattle.tables.specs.Columns.{Column, IndexColumn, offset_at, index}
 use Rattle.tables.specs.Refusals.{max_bytes}
 use Rattle.gathers.specs.Ready.{stored_offsets, stored_data}
 use Rattle.gathers.specs.Buffers.{taken_entries, taken_bytes}
+use Rattle.bits.proofs.Bytes.{part-take}
 use Rattle.bits.proofs.Numbers.{number_at-concat}
 use Rattle.bits.proofs.Sequences.{concat-cong}
 use Rattle.tables.proofs.Offsets.{rises, offsets-mono}
@@ -25,18 +27,18 @@ use Rattle.lengths.specs.Totals.{shown_entries, total_bytes}
 use Rattle.rows.specs.Rows.{Sources, row_at, row_from, row_length, row_bytes, CopyReady}
 use Rattle.rows.proofs.Copying.{row_bytes-part, row_bytes-empty}
 use Rattle.variable.specs.Ready.{VariableReady}
-use Rattle.variable.proofs.Reading.{is_taken, facts, index-facts, offset-number, offset-can, taken-row, shown-sum}
+use Rattle.variable.proofs.Reading.{shown_of, is_taken, facts, index-facts, offset-number, offset-can, taken-row, shown-sum}
 
 sub-mul : (a b u : ℕ) → (a - b) * u ≡ a * u - b * u
 sub-mul a b u = mul_comm (a - b) u ∙ mul-sub u a b ∙ rw (mul_comm u a, mul_comm u b)
 
--- what the rows are copied by
-abbrev sources_of : ℕ → Column → IndexColumn → List ℕ → Sources
-sources_of u c x s = record {
+-- what the rows are copied by, of the first n bytes of the data
+abbrev sources_of : ℕ → ℕ → Column → IndexColumn → List ℕ → Sources
+sources_of n u c x s = record {
   unit = u;
   offset_width = c.table.offset_width;
   index_width = x.indices.width;
-  «data» = c.«data»;
+  «data» = take n c.«data»;
   offsets = c.offsets;
   index_data = x.«data»;
   out_offsets = s;
@@ -55,11 +57,11 @@ module _ {u : ℕ} {c : Column} {x : IndexColumn} {valid o₀ d₀ : List ℕ} (
   pub offsets-room : suc count * w ≤ length o₀
   offsets-room = omega (arith, r.room.0, offset-length-by-buffer c x u r.layout)
 
-  bytes-written : total_bytes w (shown_entries w c.offsets x.indices.width x.«data» valid) (suc count) ≡ total_bytes w E (suc count)
+  bytes-written : total_bytes w (shown_entries (shown_of c x valid)) (suc count) ≡ total_bytes w E (suc count)
   bytes-written = concat-cong (suc count) (λ i h. ap (to_little_endian w) (shown-sum r.ready r.layout r.shows i (omega arith)))
 
   -- the offsets that are written
-  module _ {o : List ℕ} (k : o ≡ overwrite (total_bytes w (shown_entries w c.offsets x.indices.width x.«data» valid) (suc count)) o₀) where
+  module _ {o : List ℕ} (k : o ≡ overwrite (total_bytes w (shown_entries (shown_of c x valid)) (suc count)) o₀) where
     pub offsets-stored : o ≡ stored_offsets c x o₀
     offsets-stored = rw r.layout (k ∙ ap (λ (b : List ℕ). overwrite b o₀) (bytes-written ∙ sym (offsets-by-buffer c x u r.layout)))
 
@@ -69,61 +71,6 @@ module _ {u : ℕ} {c : Column} {x : IndexColumn} {valid o₀ d₀ : List ℕ} (
         rw (k, bytes-written)
         (number_at-concat w (suc count) (λ j. sum j E) (drop (length (total_bytes w E (suc count))) o₀) i (omega arith)
         (total-offset c x u r.layout r.ready r.no_overflow i h))
-
-    abbrev b : Sources
-    b = sources_of u c x o
-
-    at-total : (j : ℕ) → j ≤ count → row_at b j ≡ sum j E * u
-    at-total j h = ap (λ (n : ℕ). n * u) (total-at j h)
-
-    at_next : (j : ℕ) → j < count → row_at b (j + 1) ≡ sum j E * u + E j * u
-    at_next j h = at-total (j + 1) (omega arith) ∙ rw (add-one j) (add-mul (sum j E) (E j) u)
-
-    length_at : (j : ℕ) → j < count → row_length b j ≡ E j * u
-    length_at j h = omega (arith, at-total j (omega arith), at_next j h)
-
-    null-at : (j : ℕ) → j < count → is_taken c x j ≡ false → row_at b (j + 1) ≡ row_at b j
-    null-at j h t = let z : E j * u ≡ 0 = rw (entries-null c x u j t) (zero-mul u) in omega (arith, at-total j (omega arith), at_next j h)
-
-    -- a valid row
-    module _ (j : ℕ) (h : j < count) (t : is_taken c x j ≡ true) where
-      abbrev i : ℕ
-      i = index x j
-
-      below : i < c.table.rows
-      below = taken-below c x u r.layout r.ready j h t
-
-      from_at : row_from b j ≡ offset_at c i * u
-      from_at = ap (λ (n : ℕ). n * u) (ap (number_at w c.offsets) (sym (index_number x j)) ∙ sym (offset_at-number c i))
-
-      size-at : E j * u ≡ offset_at c (suc i) * u - offset_at c i * u
-      size-at = ap (λ (n : ℕ). n * u) (entries-valid c x u j t) ∙ sub-mul (offset_at c (suc i)) (offset_at c i) u
-
-      inside : row_from b j + row_length b j ≤ offset_at c c.table.rows * u
-      inside =
-          let up : offset_at c i * u ≤ offset_at c (suc i) * u = mul-le-mul_right u (rises u c (facts r.ready r.layout) i below) in
-          let last : offset_at c (suc i) * u ≤ offset_at c c.table.rows * u =
-          mul-le-mul_right u (offsets-mono u c (facts r.ready r.layout) (suc i) c.table.rows below (omega arith)) in
-          omega (arith, from_at, length_at j h, size-at)
-
-      bytes-at : row_bytes b j ≡ taken_bytes u c x j
-      bytes-at =
-          row_bytes-part b j
-          ∙ ap₂ (λ (p n : ℕ). part p n c.«data») from_at (length_at j h ∙ ap (λ (n : ℕ). n * u) (entries-valid c x u j t))
-          ∙ sym (variable-valid c x u j t)
-
-    all-bytes : concat count (row_bytes b) ≡ concat count (taken_bytes u c x)
-    all-bytes = concat-cong count (λ j h. go j h (is_taken c x j) refl)
-      where
-        go : (j : ℕ) → j < count → (t : Bool) → is_taken c x j ≡ t → row_bytes b j ≡ taken_bytes u c x j
-        go j h true t = bytes-at j h t
-        go j h false t = row_bytes-empty b j (null-at j h t) ∙ sym (variable-null c x u j t)
-
-    pub data-stored : {d : List ℕ} → d ≡ overwrite (concat count (row_bytes b)) d₀ → d ≡ stored_data c x d₀
-    data-stored e = e ∙ ap (λ (s : List ℕ). overwrite s d₀) (all-bytes ∙ sym (variable-by-buffer c x u r.layout))
-
-    pub data-room : row_at b count ≤ length d₀
-    data-room = omega (arith, at-total count (omega arith), r.room.1, data-length-by-buffer c x u r.layout)
 
     -- the last offset, as it is read
     module _ {n : ℕ} (e : n ≡ number_at w c.offsets c.table.rows) where
@@ -136,7 +83,66 @@ module _ {u : ℕ} {c : Column} {x : IndexColumn} {valid o₀ d₀ : List ℕ} (
       pub needed-small : n * u ≤ max_bytes
       needed-small = le_trans needed-inside (facts r.ready r.layout).small
 
-      pub copy-ready : length o ≡ length o₀ → CopyReady b valid (n * u) (row_at b count) count
+      abbrev b : Sources
+      b = sources_of (n * u) u c x o
+
+      pub needed-long : length b.«data» ≡ n * u
+      needed-long = length-take-le (n * u) c.«data» needed-inside
+
+      at-total : (j : ℕ) → j ≤ count → row_at b j ≡ sum j E * u
+      at-total j h = ap (λ (m : ℕ). m * u) (total-at j h)
+
+      at_next : (j : ℕ) → j < count → row_at b (j + 1) ≡ sum j E * u + E j * u
+      at_next j h = at-total (j + 1) (omega arith) ∙ rw (add-one j) (add-mul (sum j E) (E j) u)
+
+      length_at : (j : ℕ) → j < count → row_length b j ≡ E j * u
+      length_at j h = omega (arith, at-total j (omega arith), at_next j h)
+
+      null-at : (j : ℕ) → j < count → is_taken c x j ≡ false → row_at b (j + 1) ≡ row_at b j
+      null-at j h t = let z : E j * u ≡ 0 = rw (entries-null c x u j t) (zero-mul u) in omega (arith, at-total j (omega arith), at_next j h)
+
+      -- a valid row
+      module _ (j : ℕ) (h : j < count) (t : is_taken c x j ≡ true) where
+        abbrev i : ℕ
+        i = index x j
+
+        below : i < c.table.rows
+        below = taken-below c x u r.layout r.ready j h t
+
+        from_at : row_from b j ≡ offset_at c i * u
+        from_at = ap (λ (m : ℕ). m * u) (ap (number_at w c.offsets) (sym (index_number x j)) ∙ sym (offset_at-number c i))
+
+        size-at : E j * u ≡ offset_at c (suc i) * u - offset_at c i * u
+        size-at = ap (λ (m : ℕ). m * u) (entries-valid c x u j t) ∙ sub-mul (offset_at c (suc i)) (offset_at c i) u
+
+        inside : row_from b j + row_length b j ≤ n * u
+        inside =
+            let up : offset_at c i * u ≤ offset_at c (suc i) * u = mul-le-mul_right u (rises u c (facts r.ready r.layout) i below) in
+            let last : offset_at c (suc i) * u ≤ offset_at c c.table.rows * u =
+            mul-le-mul_right u (offsets-mono u c (facts r.ready r.layout) (suc i) c.table.rows below (omega arith)) in
+            omega (arith, from_at, length_at j h, size-at, needed-at)
+
+        bytes-at : row_bytes b j ≡ taken_bytes u c x j
+        bytes-at =
+            row_bytes-part b j
+            ∙ part-take (row_from b j) (row_length b j) (n * u) c.«data» inside
+            ∙ ap₂ (λ (p k : ℕ). part p k c.«data») from_at (length_at j h ∙ ap (λ (m : ℕ). m * u) (entries-valid c x u j t))
+            ∙ sym (variable-valid c x u j t)
+
+      all-bytes : concat count (row_bytes b) ≡ concat count (taken_bytes u c x)
+      all-bytes = concat-cong count (λ j h. go j h (is_taken c x j) refl)
+        where
+          go : (j : ℕ) → j < count → (t : Bool) → is_taken c x j ≡ t → row_bytes b j ≡ taken_bytes u c x j
+          go j h true t = bytes-at j h t
+          go j h false t = row_bytes-empty b j (null-at j h t) ∙ sym (variable-null c x u j t)
+
+      pub data-stored : {d : List ℕ} → d ≡ overwrite (concat count (row_bytes b)) d₀ → d ≡ stored_data c x d₀
+      data-stored f = f ∙ ap (λ (s : List ℕ). overwrite s d₀) (all-bytes ∙ sym (variable-by-buffer c x u r.layout))
+
+      pub data-room : row_at b count ≤ length d₀
+      data-room = omega (arith, at-total count (omega arith), r.room.1, data-length-by-buffer c x u r.layout)
+
+      pub copy-ready : length o ≡ length o₀ → CopyReady b valid count
       copy-ready long = record {
         few = omega (arith, (index-facts r.ready r.layout).count);
         offset_width = offset-number r.ready r.layout;
@@ -147,9 +153,7 @@ module _ {u : ℕ} {c : Column} {x : IndexColumn} {valid o₀ d₀ : List ℕ} (
         started = rw (add-one count) (omega (arith, offsets-room, long));
         first = at-total 0 (omega arith) ∙ zero-mul u;
         rises = λ j h. omega (arith, at-total j (omega arith), at_next j h);
-        last = refl;
         empty = λ j h t. null-at j h (sym (validates-bit r.shows j h) ∙ t);
         found = λ j h t. offset-can r.ready r.layout (number_at x.indices.width x.«data» j) (omega (arith, taken-row r.ready r.layout j h (validates-bit r.shows j h) t));
-        read = λ j h t. rw needed-at (inside j h (sym (validates-bit r.shows j h) ∙ t));
-        source = needed-inside;
+        read = λ j h t. omega (arith, needed-long, inside j h (sym (validates-bit r.shows j h) ∙ t));
       }

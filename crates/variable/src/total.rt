@@ -2,33 +2,24 @@
 // total. All lengths are first added up without a branch; only where the sum passes the largest offset is the row looked for.
 ghost use Rattle.std.specs.Prelude.{◌≡◌};
 ghost use Rattle.tables.specs.declared.table.Layout.TheVariants.{VariableWidth};
-ghost use Rattle.tables.specs.Columns.{column_at, index_column_at, layout_at};
+ghost use Rattle.tables.specs.Columns.{column_of, index_column_of, layout_at};
 ghost use Rattle.gathers.specs.Taken.{taken};
 ghost use Rattle.gathers.specs.Gather.{overflow_total};
 ghost use Rattle.gathers.specs.Stages.{measured};
 ghost use Rattle.gathers.specs.Ready.{Ready};
 ghost use Rattle.variable.specs.Measured.{measured_numbers, largest_offset};
 
-use crate::width::sum_by_width;
-use kinds::kind::{kind_of, uses_of};
-use lengths::total::{Places, count_entries};
-use tables::refusal::{Checked, Refusal};
-use tables::table::{Indices, Kind, Table};
-
-// That the rows can be gathered and how many bytes they need, or why they cannot, and 0.
-#[derive(Clone, Copy)]
-pub struct Measured {
-    pub checked: Checked,
-    pub total: u64,
-}
+use crate::width::sum_within_by_width;
+use kinds::kind::uses_of;
+use lengths::row::Selection;
+use tables::column::{Column, IndexColumn};
+use tables::refusal::Refusal;
+use tables::table::Kind;
 
 fn largest_offset(w: u64) -> u64
     ensures { result ≡ largest_offset w }
 {
-    if w == 4 {
-        return 2_147_483_647;
-    }
-    18_446_744_073_709_551_615
+    if w == 4 { i32::MAX as u64 } else { u64::MAX }
 }
 
 // What refusal 6 carries: of lists, whose entries have a width, the total before it, of variable bytes the new total.
@@ -45,57 +36,37 @@ fn overflow_total(kind: Kind, new: u64, old: u64) -> u64
 // The data bytes that the gathered rows need, or refusal 6. An entry has `unit` bytes. Where there are no rows every index is null, and no bit of the
 // rows' validity need be there: nothing is read then.
 pub fn measure_variable(
-    table: Table,
-    data: &[u8],
-    offsets: &[u8],
-    validity: &[u8],
-    indices: Indices,
-    index_data: &[u8],
-    index_validity: &[u8],
+    column: &Column<'_>,
+    indices: &IndexColumn<'_>,
     unit: u64,
-) -> Measured
-    requires ready { Ready (column_at table «data» offsets validity) (index_column_at indices index_data index_validity) }
-    requires layout { layout_at (column_at table «data» offsets validity) ≡ VariableWidth unit }
-    ensures { measured_numbers result
-        ≡ measured (taken (column_at table «data».entry offsets.entry validity.entry) (index_column_at indices index_data.entry index_validity.entry)) }
+) -> Result<u64, Refusal>
+    requires ready { Ready (column_of column.now) (index_column_of indices.now) }
+    requires layout { layout_at (column_of column.now) ≡ VariableWidth unit }
+    ensures { measured_numbers result ≡ measured (taken (column_of column.now) (index_column_of indices.now)) }
 {
+    let table = column.table;
     if table.rows == 0 {
-        return Measured {
-            checked: Checked::Fit,
-            total: 0,
-        };
+        return Ok(0);
     }
     let ow = table.offset_width as usize;
-    let w = indices.width as usize;
-    let at = Places {
+    let w = indices.indices.width as usize;
+    let selection = Selection {
+        validity: column.validity,
         bit: table.validity_bit as usize,
-        index_bit: indices.validity_bit as usize,
-        count: indices.count as usize,
+        index_data: indices.data,
+        index_validity: indices.validity,
+        index_bit: indices.indices.validity_bit as usize,
     };
+    let count = indices.indices.count as usize;
     let most = largest_offset(table.offset_width);
-    let sum = sum_by_width(offsets, ow, validity, index_data, w, index_validity, at);
-    if sum <= most {
-        return Measured {
-            checked: Checked::Fit,
-            total: sum * unit,
-        };
-    }
-    let counted = count_entries(
-        offsets,
-        ow,
-        validity,
-        index_data,
-        w,
-        index_validity,
-        at,
-        most,
-    );
-    let total = overflow_total(kind_of(table.kind), counted.after, counted.before);
-    Measured {
-        checked: Checked::Unfit(Refusal::Overflow {
-            place: counted.place,
-            total,
-        }),
-        total: 0,
+    match sum_within_by_width(column.offsets, ow, &selection, w, count, most) {
+        Ok(sum) => Ok(sum * unit),
+        Err(over) => {
+            let total = overflow_total(Kind::from(table.kind), over.after, over.before);
+            Err(Refusal::Overflow {
+                place: over.place,
+                total,
+            })
+        }
     }
 }

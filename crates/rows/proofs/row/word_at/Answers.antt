@@ -1,6 +1,6 @@
 -- There are at most 7 bytes from i up to n, and a turn puts one more before them.
 use Rattle.std.proofs.Common.{◌-◌, arith}
-use Rattle.bits.proofs.Numbers.{number-down, little_endian-room}
+use Rattle.bits.proofs.Numbers.{little_endian-room}
 use Rattle.rows.proofs.row.word_at.Goals as goal
 
 pub overflow_mul-word : goal.overflow_mul-word
@@ -12,12 +12,3 @@ pub overflow_add-word : goal.overflow_add-word
 overflow_add-word c =
     let at = c.loop-i in
     omega (arith, little_endian-room (c.args.n - at.i) at.i c.args.valid.now c.type_inv.valid (omega arith))
-
-pub loop-i-preserved : goal.loop-i-preserved
-loop-i-preserved c =
-    let at = c.loop-i in
-    record {
-      above = omega arith;
-      below = omega arith;
-      number = number-down c.args.valid.now at.i c.args.n (omega arith) at.invariant.below c.requires.1 at.invariant.number c.wide.ensures.0;
-    }

@@ -5,11 +5,4 @@ use Rattle.bits.specs.Numbers.{little_endian}
 use Rattle.rows.proofs.row.word_at.Given as goal
 
 abbrev pub invariant-loop-i : goal.invariant-loop-i
-invariant-loop-i l = record {
-  above : l.k ≤ l.i;
-  below : l.i ≤ l.n;
-  number : l.word ≡ little_endian (part l.i (l.n - l.i) l.valid);
-}
-
-abbrev pub decreases-loop-i : goal.decreases-loop-i
-decreases-loop-i l = l.i
+invariant-loop-i l = record { above : l.k ≤ l.i; number : l.word ≡ little_endian (part l.i (l.n - l.i) l.valid) }

@@ -1,39 +1,35 @@
 -- Past refusal 6 the offsets that are written say where the rows go.
-use Rattle.std.proofs.Common.{arith}
+use Rattle.std.proofs.Common.{sym, arith}
 use Rattle.variable.proofs.Reading.{facts, offset-number, offset-can, shown-there}
-use Rattle.variable.proofs.Writing.{offsets-room, offsets-stored, data-stored, data-room, needed-small, copy-ready}
+use Rattle.variable.proofs.Writing.{offsets-room, offsets-stored, data-stored, data-room, needed-long, needed-small, copy-ready}
 use Rattle.variable.proofs.take.take_variable.Goals as goal
 
-pub put_by_width-requires-clause-offset_width : goal.put_by_width-requires-clause-offset_width
-put_by_width-requires-clause-offset_width c = (facts c.requires.ready c.requires.layout).width
+pub put_by_width-requires : goal.put_by_width-requires
+put_by_width-requires c =
+    let p = c.requires in
+    record { offset_width = (facts p.ready p.layout).width; shown_there = shown-there p.ready p.layout p.shows; room = offsets-room p }
 
-pub put_by_width-requires-clause-shown_there : goal.put_by_width-requires-clause-shown_there
-put_by_width-requires-clause-shown_there c = shown-there c.requires.ready c.requires.layout c.requires.shows
-
-pub put_by_width-requires-clause-room : goal.put_by_width-requires-clause-room
-put_by_width-requires-clause-room c = offsets-room c.requires
-
-pub number_at-requires-clause-width : goal.number_at-requires-clause-width
-number_at-requires-clause-width c = offset-number c.requires.ready c.requires.layout
-
-pub number_at-requires-clause-there : goal.number_at-requires-clause-there
-number_at-requires-clause-there c = offset-can c.requires.ready c.requires.layout _ (omega arith)
+pub number_at-requires : goal.number_at-requires
+number_at-requires c =
+    let p = c.requires in
+    record { width = offset-number p.ready p.layout; there = offset-can p.ready p.layout _ (omega arith) }
 
 pub overflow_mul-needed : goal.overflow_mul-needed
 overflow_mul-needed c = omega (arith, needed-small c.requires c.put_by_width.ensures c.number_at.ensures)
 
-pub copy_by_width-requires-clause-offset_width : goal.copy_by_width-requires-clause-offset_width
-copy_by_width-requires-clause-offset_width c = (facts c.requires.ready c.requires.layout).width
+pub slice_bounds-sources-end : goal.slice_bounds-sources-end
+slice_bounds-sources-end c = sym (needed-long c.requires c.put_by_width.ensures c.number_at.ensures)
 
-pub copy_by_width-requires-clause-copy_ready : goal.copy_by_width-requires-clause-copy_ready
-copy_by_width-requires-clause-copy_ready c =
-    copy-ready c.requires c.put_by_width.ensures c.number_at.ensures c.put_by_width.auto.out_offsets
+pub copy_by_width-requires : goal.copy_by_width-requires
+copy_by_width-requires c =
+    let p = c.requires in
+    record {
+      offset_width = (facts p.ready p.layout).width;
+      copy_ready = copy-ready p c.put_by_width.ensures c.number_at.ensures c.put_by_width.auto.out_offsets;
+      room = data-room p c.put_by_width.ensures c.number_at.ensures;
+    }
 
-pub copy_by_width-requires-clause-room : goal.copy_by_width-requires-clause-room
-copy_by_width-requires-clause-room c = data-room c.requires c.put_by_width.ensures
-
-pub returns-clause-offsets_stored : goal.returns-clause-offsets_stored
-returns-clause-offsets_stored c = offsets-stored c.requires c.put_by_width.ensures
-
-pub returns-clause-data_stored : goal.returns-clause-data_stored
-returns-clause-data_stored c = data-stored c.requires c.put_by_width.ensures c.copy_by_width.ensures
+pub returns : goal.returns
+returns c =
+    let o = c.put_by_width.ensures in
+    record { offsets_stored = offsets-stored c.requires o; data_stored = data-stored c.requires o c.number_at.ensures c.copy_by_width.ensures }

@@ -1,4 +1,4 @@
--- A sum that fits has no row of refusal 6 on the way; else the count stops at that row.
+-- Where no total is above the largest offset the rows need the bytes of all entries; else the count stops at the row of refusal 6.
 use Rattle.std.proofs.Common.{arith}
 use Rattle.variable.proofs.Reading.{facts, index-facts, selected-there}
 use Rattle.variable.proofs.Measuring.{no_rows, bytes_fit, sum-fit, sum_over}
@@ -7,25 +7,18 @@ use Rattle.variable.proofs.total.measure_variable.Goals as goal
 pub returns-then-table-eq0 : goal.returns-then-table-eq0
 returns-then-table-eq0 c = no_rows c.requires.ready c.requires.layout (omega arith)
 
-pub sum_by_width-sum-requires-clause-offset_width : goal.sum_by_width-sum-requires-clause-offset_width
-sum_by_width-sum-requires-clause-offset_width c =
-    let p = c.requires in
-    ((facts p.ready p.layout).width, (index-facts p.ready p.layout).width)
-
-pub sum_by_width-sum-requires-clause-selected_there : goal.sum_by_width-sum-requires-clause-selected_there
-sum_by_width-sum-requires-clause-selected_there c = selected-there c.requires.ready c.requires.layout (omega arith)
+pub sum_within_by_width-requires : goal.sum_within_by_width-requires
+sum_within_by_width-requires c =
+    let r = c.requires.ready in
+    let l = c.requires.layout in
+    record { offset_width = ((facts r l).width, (index-facts r l).width); selected_there = selected-there r l (omega arith) }
 
 pub overflow_mul-result : goal.overflow_mul-result
-overflow_mul-result c = omega (arith, bytes_fit c.requires.ready c.requires.layout c.sum_by_width-sum.ensures)
+overflow_mul-result c = omega (arith, bytes_fit c.requires.ready c.requires.layout _ c.in-Ok.ensures)
 
-pub returns-then-sum-most : goal.returns-then-sum-most
-returns-then-sum-most c =
-    sum-fit c.requires.ready c.requires.layout c.sum_by_width-sum.ensures c.largest_offset-most.ensures c.if-sum-most.true
+pub returns-in-Ok : goal.returns-in-Ok
+returns-in-Ok c = sum-fit c.requires.ready c.requires.layout _ c.in-Ok.ensures c.largest_offset-most.ensures
 
-pub count_entries-counted-requires : goal.count_entries-counted-requires
-count_entries-counted-requires c = selected-there c.requires.ready c.requires.layout (omega arith)
-
-pub returns : goal.returns
-returns c =
-    sum_over c.requires.ready c.requires.layout c.sum_by_width-sum.ensures c.largest_offset-most.ensures c.if-sum-most.false
-    c.count_entries-counted.ensures c.kind_of.ensures c.overflow_total-total.ensures
+pub returns-in-Err : goal.returns-in-Err
+returns-in-Err c =
+    sum_over c.requires.ready c.requires.layout c.in-Err.ensures c.largest_offset-most.ensures c.from.ensures c.overflow_total-total.ensures

@@ -1,7 +1,7 @@
 -- What the masks leave is the row, or row 0 with no entries.
 use Rattle.std.proofs.Common.{◌∙◌}
 use Rattle.lengths.proofs.Masking.{taken-there}
-use Rattle.lengths.proofs.row.masked_entries.Goals as goal
+use Rattle.lengths.proofs.row.Selection.masked_entries.Goals as goal
 
 pub returns : goal.returns
 returns c = c.entries_of.ensures ∙ (taken-there c.requires.entries_there c.masked_row-taken.ensures).entries

@@ -1,0 +1,7 @@
+-- The bit that is written says whether the row is valid.
+use Rattle.std.proofs.Common.{◌∙◌}
+use Rattle.lengths.proofs.Masking.{shown-there}
+use Rattle.lengths.proofs.row.Shown.shown_entries.Goals as goal
+
+pub returns : goal.returns
+returns c = c.entries_of.ensures ∙ (shown-there c.requires.entries_there c.get_bit-v.ensures c.number_at.ensures).entries

@@ -1,7 +1,0 @@
--- The bit that is written says whether the row is valid.
-use Rattle.std.proofs.Common.{◌∙◌}
-use Rattle.lengths.proofs.Masking.{shown-there}
-use Rattle.lengths.proofs.row.shown_entries.Goals as goal
-
-pub returns : goal.returns
-returns c = c.entries_of.ensures ∙ (shown-there c.requires.entries_there c.wide_bit-v.ensures c.number_at.ensures).entries
