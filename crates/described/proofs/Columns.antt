@@ -1,16 +1,16 @@
 -- What the tests and the writing of one column tell (specs/Told.antt, specs/Taken.antt), by what the stages below answer. Assumes nothing.
-use mathlib.Core.Path.{◌≡◌, refl, sym, ap, ◌∙◌, subst}
-use mathlib.Core.Bool.{Bool, true, false, false≢true}
+use mathlib.Core.Path.{◌≡◌, sym, ap, ◌∙◌, subst}
+use mathlib.Core.Bool.{Bool, true, false}
 use mathlib.Core.List.{List}
-use Prim.Native.Nat.{ℕ, suc, ◌+◌, ◌*◌, ◌^◌, ◌≤◌, ◌<◌}
+use Prim.Native.Nat.{ℕ, ◌*◌, ◌≤◌}
 use native.Mathlib.Omega.{arith}
 use lib.ListN.{length}
 use Rattle.bits.specs.Bytes.{overwrite}
 use Rattle.bits.specs.Numbers.{number_at}
 use Rattle.tables.specs.declared.refusal.Answer.{Answer}
 use Rattle.tables.specs.declared.refusal.Refusal.{Refusal}
-use Rattle.tables.specs.declared.refusal.Checked.{Checked}
-use Rattle.tables.specs.declared.refusal.Checked.TheVariants.{Fit, Unfit}
+use Rattle.tables.specs.Stages.{Checked}
+use Rattle.std.specs.Prelude.{Result, Ok, Err}
 use Rattle.tables.specs.declared.table.Layout.{Layout}
 use Rattle.tables.specs.declared.table.Layout.TheVariants.{FixedWidth, BitMap, VariableWidth}
 use Rattle.tables.specs.declared.table.Lengths.{Lengths}
@@ -20,14 +20,12 @@ use Rattle.tables.specs.Answers.{passes}
 use Rattle.tables.specs.Stages.{checked_numbers, ◌or_else◌, offsets_refusal}
 use Rattle.tables.specs.Rows.{Rows, rows_of}
 use Rattle.gathers.specs.Taken.{take_rows}
-use Rattle.gathers.specs.Stored.{Output, validity_bytes, written_offsets, data_bytes, offset_length, data_length, needed_lengths, null_count, store_offsets, store}
+use Rattle.gathers.specs.Stored.{Output, validity_bytes, written_offsets, data_bytes, offset_length, data_length, null_count, store_offsets, store}
 use Rattle.gathers.specs.Stages.{range_refusal, overflow_refusal, measured}
 use Rattle.gathers.specs.Ready.{Ready, NoOverflow, HasRoom}
-use Rattle.variable.specs.declared.total.Measured.{Measured}
-use Rattle.variable.specs.Measured.{measured_by, measured_numbers}
+use Rattle.variable.specs.Measured.{measured_numbers}
 use Rattle.stages.specs.Space.{lengths_for}
-use Rattle.described.specs.declared.column.Through.{Through}
-use Rattle.described.specs.Told.{stopped_at, SizesPassed, RestToldOf}
+use Rattle.described.specs.Told.{SizesPassed, RestToldOf}
 use Rattle.described.specs.Taken.{taken_of, HasRoomFor, data_in, OffsetsIn}
 use Rattle.bits.proofs.Bytes.{length-overwrite}
 use Rattle.tables.proofs.Bounds.{offset-number-width}
@@ -40,15 +38,12 @@ use Rattle.gathers.proofs.Joining.{overflow-accepts, ready-through, data-small, 
 use Rattle.stages.proofs.Routines.{ready-count, ready-bytes}
 use Rattle.stages.proofs.Spaces.{rows-layout, needed-told}
 
--- a refusal does not pass, and `Fit` does
-pub refuses : {s : Checked} {r : Refusal} {a : Answer} → checked_numbers s ≡ a → s ≡ Unfit r → passes a ≡ false
+-- a refusal does not pass, and where none is answered a stage does
+pub refuses : {A : Type 0} {s : Result A Refusal} {r : Refusal} {a : Answer} → checked_numbers s ≡ a → s ≡ Err r → passes a ≡ false
 refuses {r = r} e f = rw (sym e, f) (refusing r)
 
-pub lets-pass : {s : Checked} {a : Answer} → checked_numbers s ≡ a → s ≡ Fit → passes a ≡ true
+pub lets-pass : {A : Type 0} {s : Result A Refusal} {t : A} {a : Answer} → checked_numbers s ≡ a → s ≡ Ok t → passes a ≡ true
 lets-pass e f = ap passes (sym e ∙ ap checked_numbers f)
-
-pub not-fit : {s : Checked} {r : Refusal} {A : Type 0} → s ≡ Unfit r → s ≡ Fit → A
-not-fit {r = r} f g = absurd (false≢true (sym (refusing r) ∙ ap passes (sym (ap checked_numbers f) ∙ ap checked_numbers g)))
 
 module _ (c : Column) (x : IndexColumn) where
   abbrev v : Rows
@@ -63,20 +58,11 @@ module _ (c : Column) (x : IndexColumn) where
   abbrev rest : Answer
   rest = offsets_refusal c or_else range_refusal c.table.rows x or_else overflow_refusal v
 
-  stop : {s : Checked} {r : Refusal} {t : Through} → checked_numbers s ≡ rest → s ≡ Unfit r → t ≡ stopped_at s → RestToldOf c x t
-  stop e f d = subst (RestToldOf c x) (sym d) (e, λ g. not-fit f g)
-
-  pub offsets-stopped : {s : Checked} {r : Refusal} {t : Through} → checked_numbers s ≡ offsets_refusal c → s ≡ Unfit r → t ≡ stopped_at s → RestToldOf c x t
-  offsets-stopped e f d = let n = refuses e f in stop (e ∙ rw (n, n)) f d
-
-  module _ {first : Bool} (p : SizesPassed first c x) {s : Checked} (se : checked_numbers s ≡ offsets_refusal c) (sf : s ≡ Fit) where
+  module _ {first : Bool} (p : SizesPassed first c x) {s : Checked} (se : checked_numbers s ≡ offsets_refusal c) (sf : s ≡ Ok tt) where
     good : passes (offsets_refusal c) ≡ true
     good = lets-pass se sf
 
-    pub range-stopped : {t : Checked} {r : Refusal} {q : Through} → checked_numbers t ≡ range_refusal c.table.rows x → t ≡ Unfit r → q ≡ stopped_at t → RestToldOf c x q
-    range-stopped e f d = let n = refuses e f in stop (e ∙ rw (good, n)) f d
-
-    module _ {t : Checked} (te : checked_numbers t ≡ range_refusal c.table.rows x) (tf : t ≡ Fit) where
+    module _ {t : Checked} (te : checked_numbers t ≡ range_refusal c.table.rows x) (tf : t ≡ Ok tt) where
       range : passes (range_refusal c.table.rows x) ≡ true
       range = lets-pass te tf
 
@@ -86,17 +72,15 @@ module _ (c : Column) (x : IndexColumn) where
       by-overflow : overflow_refusal v ≡ rest
       by-overflow = rw (good, range)
 
-      pub rest-told : (m : Measured) → measured_numbers m ≡ measured v → {n : Lengths} → n ≡ found m.total → RestToldOf c x (record { checked = m.checked; needed = n })
-      rest-told m e {n} h = go m.checked refl
-        where
-          go : (s : Checked) → m.checked ≡ s → (checked_numbers m.checked ≡ rest) × (m.checked ≡ Fit → n ≡ needed_lengths v)
-          go Fit f =
-              let t = measured-total v (sym (ap (λ (s : Checked). measured_by s m.total) f) ∙ e) in
-              (ap checked_numbers f ∙ sym (overflow-accepts v t.0) ∙ by-overflow, λ g. h ∙ needed-told c x t.1)
-          go (Unfit r) f =
-              let d = sym (ap (λ (s : Checked). measured_by s m.total) f) ∙ e in
-              let t = measured-refused v (rw (sym d) (refusing r)) in
-              (ap checked_numbers f ∙ d ∙ t.1 ∙ by-overflow, λ g. not-fit f g)
+      pub measure-stopped : {m : Result ℕ Refusal} {r : Refusal} → measured_numbers m ≡ measured v → m ≡ Err r → RestToldOf c x (Err r)
+      measure-stopped {r = r} e f =
+          let d = sym (ap measured_numbers f) ∙ e in
+          (d ∙ (measured-refused v (rw (sym d) (refusing r))).1 ∙ by-overflow, tt)
+
+      pub rest-told : {m : Result ℕ Refusal} {total : ℕ} {n : Lengths} → measured_numbers m ≡ measured v → m ≡ Ok total → n ≡ found total → RestToldOf c x (Ok n)
+      rest-told e f h =
+          let t = measured-total v (sym (ap measured_numbers f) ∙ e) in
+          (sym (overflow-accepts v t.0) ∙ by-overflow, h ∙ needed-told c x t.1)
 
   -- ---- the writing
 

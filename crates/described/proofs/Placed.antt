@@ -1,7 +1,7 @@
 -- A column that lies in a body, by what the code finds of it: its tests, and the parts of the body that are its buffers. Assumes nothing.
 use mathlib.Core.Path.{◌≡◌, refl, sym, ap, ◌∙◌, subst}
 use mathlib.Core.Bool.{Bool, true, false, cond}
-use mathlib.Core.List.{List, []}
+use mathlib.Core.List.{List}
 use Prim.Native.Nat.{ℕ}
 use lib.ListN.{length}
 use Rattle.tables.specs.declared.refusal.Answer.{Answer}
@@ -11,8 +11,8 @@ use Rattle.tables.specs.declared.table.Uses.{Uses}
 use Rattle.tables.specs.declared.table.Lengths.{Lengths}
 use Rattle.tables.specs.declared.table.Indices.{Indices}
 use Rattle.tables.specs.declared.table.IndexLengths.{IndexLengths}
-use Rattle.tables.specs.declared.refusal.Checked.{Checked}
-use Rattle.tables.specs.declared.refusal.Checked.TheVariants.{Fit, Unfit}
+use Rattle.tables.specs.Stages.{Checked}
+use Rattle.std.specs.Prelude.{Result, Ok, Err}
 use Rattle.tables.specs.declared.refusal.Refusal.{Refusal}
 use Rattle.tables.specs.Answers.{passes}
 use Rattle.gathers.specs.Taken.{taken}
@@ -20,17 +20,16 @@ use Rattle.gathers.specs.Stages.{range_refusal, overflow_refusal}
 use Rattle.gathers.specs.Ready.{InRange}
 use Rattle.tables.specs.declared.table.Description.{Description}
 use Rattle.tables.specs.Kinds.{kind_of, uses_of}
-use Rattle.tables.specs.Columns.{Column, IndexColumn, lengths_of}
-use Rattle.tables.specs.Bodies.{extent_of, is_cut, some_cut, column_in}
+use Rattle.tables.specs.Columns.{Column, IndexColumn, lengths_of, index_lengths_of}
+use Rattle.tables.specs.Bodies.{some_cut, column_by, column_in}
 use Rattle.tables.specs.Stages.{checked_numbers, ◌or_else◌, form_refusal, stated_refusal, sizes_refusal, offsets_refusal}
 use Rattle.tables.specs.Refusals.{index_refusal, WellFormed}
-use Rattle.described.specs.declared.column.Through.{Through}
-use Rattle.described.specs.Told.{stopped_at, stated_lengths, tested_indices, tested_lengths, SizesPassed, RestToldOf, ToldOf}
-use Rattle.tables.proofs.Bodies.{column-table, column-cut, column-stated, column-whole, uncut-offsets}
+use Rattle.described.specs.Told.{stated_lengths, tested_indices, tested_lengths, SizesPassed, RestToldOf, ToldOf}
+use Rattle.tables.proofs.Bodies.{column-table, column-cut, column-stated}
 use Rattle.tables.proofs.Facts.{formed}
 use Rattle.tables.proofs.Stages.{no_indices, fit-sized, sizes-passed, form-alone, form-tested, stage-passed, stage-refused}
 use Rattle.gathers.proofs.Stages.{through-stages}
-use Rattle.described.proofs.Columns.{refuses, lets-pass, not-fit}
+use Rattle.described.proofs.Columns.{refuses, lets-pass}
 
 -- the index column that a column is tested with: none after the first
 abbrev pub tested : Bool → IndexColumn → IndexColumn
@@ -48,10 +47,10 @@ module _ (s : List ℕ) (d : Description) where
     used = ue ∙ ap uses_of ke
 
     -- refusals 1 to 3, by stated lengths
-    pub sizes-stated : (first : Bool) (x : IndexColumn) {a : Answer} {cut : Bool} {n : Lengths} {y : Indices} {m : IndexLengths} → cut ≡ some_cut u (length s) d
-        → n ≡ stated_lengths u d → y ≡ tested_indices first x.indices → m ≡ tested_lengths first (length x.«data») (length x.validity)
+    pub sizes-stated : (first : Bool) (x : IndexColumn) {a : Answer} {cut : Bool} {n : Lengths} {y : Indices} {o m : IndexLengths} → cut ≡ some_cut u (length s) d
+        → n ≡ stated_lengths u d → y ≡ tested_indices first x.indices → o ≡ index_lengths_of x → m ≡ tested_lengths first o.«data» o.validity
         → a ≡ stated_refusal d.table cut n y m → a ≡ sizes_refusal c (tested first x)
-    sizes-stated first x {cut = cut} {n = n} {y = y} {m = m} ce ne ye me e =
+    sizes-stated first x {cut = cut} {n = n} {y = y} {m = m} ce ne ye oe me e =
         let f : cut ≡ c.cut = ce ∙ ap (λ (u : Uses). some_cut u (length s) d) used ∙ sym (column-cut s d) in
         let g : n ≡ lengths_of c = ne ∙ ap (λ (u : Uses). stated_lengths u d) used ∙ sym (column-stated s d) in
         e
@@ -59,7 +58,7 @@ module _ (s : List ℕ) (d : Description) where
         ∙ ap (λ (n : Lengths). stated_refusal d.table c.cut n y m) g
         ∙ ap (λ (t : Table). stated_refusal t c.cut (lengths_of c) y m) (sym (column-table s d))
         ∙ ap (λ (y : Indices). stated_refusal c.table c.cut (lengths_of c) y m) ye
-        ∙ ap (λ (m : IndexLengths). stated_refusal c.table c.cut (lengths_of c) (tested_indices first x.indices) m) me
+        ∙ ap (λ (m : IndexLengths). stated_refusal c.table c.cut (lengths_of c) (tested_indices first x.indices) m) (me ∙ ap (λ (o : IndexLengths). tested_lengths first o.«data» o.validity) oe)
         ∙ both first
       where
         both : (t : Bool)
@@ -67,14 +66,13 @@ module _ (s : List ℕ) (d : Description) where
         both true = refl
         both false = refl
 
-    module _ (whole : c.cut ≡ false) where
-      pub offsets-there : u.offset_width ≡ true → is_cut (length s) d.offsets ≡ false
-      offsets-there t = uncut-offsets s d whole (ap (λ (u : Uses). u.offset_width) (sym used) ∙ t)
+    -- the column of the parts of the body
+    pub placed : {b : Column} → b ≡ column_by u s d → b ≡ c
+    unfolding column_in
+    placed e = e ∙ ap (λ (u : Uses). column_by u s d) used
 
-      -- the column of its buffers
-      pub placed : {a b v : List ℕ} → a ≡ extent_of s d.«data» → b ≡ cond u.offset_width (extent_of s d.offsets) [] → v ≡ extent_of s d.validity
-          → record { table = d.table; «data» = a; offsets = b; validity = v; cut = false } ≡ c
-      placed ea eb ev = column-whole s d whole ea (eb ∙ ap (λ (u : Uses). cond u.offset_width (extent_of s d.offsets) []) used) ev
+    pub whole-uncut : c.cut ≡ false → some_cut u (length s) d ≡ false
+    whole-uncut whole = ap (λ (u : Uses). some_cut u (length s) d) used ∙ sym (column-cut s d) ∙ whole
 
 -- ---- refusals 1 to 6, by those of the sizes and the rest
 
@@ -86,13 +84,13 @@ module _ (c : Column) (x : IndexColumn) (first : Bool) (known : first ≡ false 
       go true k = refl
       go false k = form-alone c ∙ sym (form-tested c x (k refl).passed)
 
-  pub sizes-stopped : {s : Checked} {r : Refusal} {t : Through} → checked_numbers s ≡ sizes_refusal c (tested first x) → s ≡ Unfit r → t ≡ stopped_at s → ToldOf c x t
-  sizes-stopped e f d =
+  pub sizes-stopped : {s : Checked} {r : Refusal} → checked_numbers s ≡ sizes_refusal c (tested first x) → s ≡ Err r → ToldOf c x (Err r)
+  sizes-stopped e f =
       let g = stage-refused c (tested first x) e f ∙ form-by in
       let n = refuses g f in
-      subst (ToldOf c x) (sym d) (g ∙ rw (through-stages c x, n, n), λ h. not-fit f h)
+      (sym (ap checked_numbers f) ∙ g ∙ rw (through-stages c x, n, n), tt)
 
-  module _ {s : Checked} (se : checked_numbers s ≡ sizes_refusal c (tested first x)) (sf : s ≡ Fit) where
+  module _ {s : Checked} (se : checked_numbers s ≡ sizes_refusal c (tested first x)) (sf : s ≡ Ok tt) where
     pub sizes-passed-by : SizesPassed first c x
     sizes-passed-by = record { sized = fit-sized c (tested first x) se sf; indices = go first known se; range = λ f. (known f).range }
       where
@@ -100,7 +98,7 @@ module _ (c : Column) (x : IndexColumn) (first : Bool) (known : first ≡ false 
         go true k e = (sizes-passed c x (lets-pass e sf)).1
         go false k e = (k refl).passed
 
-    pub all_told : (r : Through) → RestToldOf c x r → ToldOf c x r
+    pub all_told : (r : Result Lengths Refusal) → RestToldOf c x r → ToldOf c x r
     all_told r t =
         let f : offsets_refusal c ≡ form_refusal c x = stage-passed c (tested first x) se sf refl ∙ form-by in
         (t.0 ∙ ap (λ (a : Answer). a or_else range_refusal c.table.rows x or_else overflow_refusal (taken c x)) f ∙ sym (through-stages c x), t.1)

@@ -1,8 +1,7 @@
 -- What the tests of one column ask of each other and tell. `first` says that the column is the first of those that are gathered: the index column and the
 -- range are tested with it.
-use Rattle.std.specs.Prelude.{ℕ, ◌≡◌, Bool, true, false, if◌then◌else◌}
-use Rattle.tables.specs.declared.refusal.Checked.{Checked}
-use Rattle.tables.specs.declared.refusal.Checked.TheVariants.{Fit}
+use Rattle.std.specs.Prelude.{ℕ, ◌≡◌, Bool, true, false, if◌then◌else◌, Result, IfOk}
+use Rattle.tables.specs.declared.refusal.Refusal.{Refusal}
 use Rattle.tables.specs.declared.table.Indices.{Indices}
 use Rattle.tables.specs.declared.table.Lengths.{Lengths}
 use Rattle.tables.specs.declared.table.IndexLengths.{IndexLengths}
@@ -17,14 +16,6 @@ use Rattle.gathers.specs.Taken.{taken}
 use Rattle.gathers.specs.Stored.{needed_lengths}
 use Rattle.gathers.specs.Gather.{through_lines}
 use Rattle.gathers.specs.Stages.{range_refusal, overflow_refusal}
-use Rattle.described.specs.declared.column.Through.{Through}
-
-abbrev pub no_lengths : Lengths
-no_lengths = record { «data» = 0; offsets = 0; validity = 0 }
-
--- a refusal, unchanged
-abbrev pub stopped_at : Checked → Through
-stopped_at s = record { checked = s; needed = no_lengths }
 
 -- the lengths of the buffers that are used, as stated
 abbrev pub stated_lengths : Uses → Description → Lengths
@@ -44,13 +35,13 @@ pub record SizesPassed (first : Bool) (c : Column) (x : IndexColumn) : Type 0 wh
   pub range : first ≡ false → passes (range_refusal c.table.rows x) ≡ true
 
 -- where nothing is refused: what the rows need
-abbrev pub PassedOf : Column → IndexColumn → Through → Type 0
-PassedOf c x r = r.checked ≡ Fit → r.needed ≡ needed_lengths (taken c x)
+abbrev pub PassedOf : Column → IndexColumn → Result Lengths Refusal → Type 0
+PassedOf c x r = IfOk r (λ needed. needed ≡ needed_lengths (taken c x))
 
 -- refusals 4 to 6
-abbrev pub RestToldOf : Column → IndexColumn → Through → Type 0
-RestToldOf c x r = (checked_numbers r.checked ≡ offsets_refusal c or_else range_refusal c.table.rows x or_else overflow_refusal (taken c x)) × PassedOf c x r
+abbrev pub RestToldOf : Column → IndexColumn → Result Lengths Refusal → Type 0
+RestToldOf c x r = (checked_numbers r ≡ offsets_refusal c or_else range_refusal c.table.rows x or_else overflow_refusal (taken c x)) × PassedOf c x r
 
 -- refusals 1 to 6
-abbrev pub ToldOf : Column → IndexColumn → Through → Type 0
-ToldOf c x r = (checked_numbers r.checked ≡ first_of (through_lines c x)) × PassedOf c x r
+abbrev pub ToldOf : Column → IndexColumn → Result Lengths Refusal → Type 0
+ToldOf c x r = (checked_numbers r ≡ first_of (through_lines c x)) × PassedOf c x r

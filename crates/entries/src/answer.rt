@@ -1,15 +1,15 @@
-// The answer of a gather: an enum, and the paper's four numbers of each of its cases.
+// The answer of a gather: what was gathered, or the refusal; and the paper's four numbers of each of its cases.
 ghost use Rattle.std.specs.Prelude.{◌≡◌};
 ghost use Rattle.tables.specs.Answers.{refuse, refusal_numbers};
 ghost use Rattle.entries.specs.Answered.{answered_numbers};
 
 use tables::refusal::{Answer, Refusal};
 
-// Gathered: `total` data bytes were written, and `nulls` of the rows are null. Refused: nothing was written.
-#[derive(Clone, Copy)]
-pub enum Answered {
-    Gathered { total: u64, nulls: u64 },
-    Refused(Refusal),
+// `total` data bytes were written, and `nulls` of the rows are null. Where a gather answers a refusal, nothing was written.
+#[derive(Clone, Copy, Debug, PartialEq, Eq)]
+pub struct Gathered {
+    pub total: u64,
+    pub nulls: u64,
 }
 
 fn numbers(number: u64, place: u64, total: u64) -> Answer
@@ -38,16 +38,16 @@ fn refusal_numbers(r: Refusal) -> Answer
     }
 }
 
-pub fn answered_numbers(answered: Answered) -> Answer
+pub fn answered_numbers(answered: Result<Gathered, Refusal>) -> Answer
     ensures { result ≡ answered_numbers answered }
 {
     match answered {
-        Answered::Gathered { total, nulls } => Answer {
+        Ok(gathered) => Answer {
             number: 0,
             place: 0,
-            total,
-            nulls,
+            total: gathered.total,
+            nulls: gathered.nulls,
         },
-        Answered::Refused(refusal) => refusal_numbers(refusal),
+        Err(refusal) => refusal_numbers(refusal),
     }
 }

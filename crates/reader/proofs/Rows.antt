@@ -1,6 +1,6 @@
 -- Which row the reader finds (specs/Row.antt), by the tests that it makes. Assumes nothing.
 use mathlib.Core.Path.{◌≡◌, refl, sym, ap, ◌∙◌}
-use mathlib.Core.Bool.{Bool, true, false, cond, ◌&&◌}
+use mathlib.Core.Bool.{Bool, true, false, cond, ◌&&◌, true≢false}
 use mathlib.Core.List.{List, []}
 use Prim.Native.Nat.{ℕ, suc, ◌+◌, ◌-◌, ◌*◌, ◌^◌, ◌≤◌, ◌<◌}
 use native.Mathlib.Nat.{mul-one}
@@ -8,44 +8,49 @@ use native.Mathlib.Numerals.{add-one}
 use native.Mathlib.Omega.{arith}
 use lib.Dec.{eqb, ltb}
 use lib.ListN.{length}
-use borrow.Author.Tests.{lt-ltb, le-ltb, eqb-true, ne_eqb, eq-eqb}
+use borrow.Author.Tests.{lt-ltb, le-ltb, ne_eqb, eq-eqb}
 use Rattle.bits.specs.Numbers.{number_at, is_number_width}
 use Rattle.bits.specs.Bits.{bit_value, is_absent, valid_at}
 use Rattle.bits.specs.Bytes.{part}
 use Rattle.tables.specs.declared.table.Layout.TheVariants.{VariableWidth}
-use Rattle.tables.specs.declared.refusal.Checked.{Checked}
-use Rattle.tables.specs.declared.refusal.Checked.TheVariants.{Fit, Unfit}
-use Rattle.tables.specs.declared.refusal.Refusal.{Refusal}
+use Rattle.tables.specs.Stages.{Checked}
+use Rattle.std.specs.Prelude.{Option, Some, None, Ok, Err}
+use Rattle.std.specs.Borrow.{Bor}
+use Rattle.std.specs.Option.{is_some, unwrap_or}
+use Rattle.std.specs.Result.{result_ok}
 use Rattle.tables.specs.Columns.{Column, kind_at, layout_at, offset_at}
-use Rattle.tables.specs.Answers.{passes}
 use Rattle.tables.specs.Stages.{checked_numbers}
 use Rattle.tables.specs.Refusals.{column_refusal, WellFormed}
 use Rattle.tables.specs.Rows.{rows_of}
-use Rattle.reader.specs.declared.row.Found.{Found}
-use Rattle.reader.specs.declared.row.Found.TheVariants.{At, Nothing}
 use Rattle.reader.specs.Row.{has_row, read_row, row_start, place_of}
-use Rattle.reader.specs.Found.{row_found, Inside}
+use Rattle.reader.specs.Found.{row_found}
 use Rattle.bits.proofs.Bits.{bit-read}
-use Rattle.bits.proofs.Tests.{and-false-right, and-true}
+use Rattle.bits.proofs.Tests.{and-false-right}
 use Rattle.tables.proofs.Facts.{formed}
 use Rattle.tables.proofs.Offsets.{VariableFacts, variable-facts, below, rises}
 use Rattle.tables.proofs.Stages.{refusing}
 use Rattle.tables.proofs.There.{row-valid-there, offset-there}
 use Rattle.tables.proofs.Views.{variable-bytes, offset_at-number, rows_of-by, variable-kind-at}
 
-pub formed-column : (c : Column) {s : Checked} → checked_numbers s ≡ column_refusal c → s ≡ Fit → WellFormed c
-formed-column c e d = sym e ∙ ap checked_numbers d
+-- the column passed its tests
+formed-column : (c : Column) (s : Checked) → checked_numbers s ≡ column_refusal c → Some tt ≡ result_ok s → WellFormed c
+formed-column c (Ok a) e d = sym e
+formed-column c (Err f) e d = absurd (true≢false (ap is_some d))
 
 module _ (c : Column) (r : ℕ) where
-  pub nothing : has_row c r ≡ false → Nothing ≡ row_found c r
+  pub nothing : (d : Bor (List ℕ)) → has_row c r ≡ false → None ≡ row_found d c r
   unfolding row_found
-  nothing e = rw e
+  nothing d e = rw e
 
-  pub unfit : {s : Checked} {f : Refusal} → checked_numbers s ≡ column_refusal c → s ≡ Unfit f → has_row c r ≡ false
+  pub unfit : (s : Checked) → checked_numbers s ≡ column_refusal c → None ≡ result_ok s → has_row c r ≡ false
   unfolding has_row
-  unfit {f = f} e d = rw (sym e, d, refusing f)
+  unfit (Ok a) e d = absurd (true≢false (sym (ap is_some d)))
+  unfit (Err f) e d = rw (sym e, refusing f)
 
-  module _ (w : WellFormed c) where
+  module _ (s : Checked) (told : checked_numbers s ≡ column_refusal c) (passed : Some tt ≡ result_ok s) where
+    w : WellFormed c
+    w = formed-column c s told passed
+
     pub other-kind : (c.table.kind ≡ 3 → ⊥) → has_row c r ≡ false
     unfolding has_row
     other-kind n = rw (w, ne_eqb c.table.kind 3 n)
@@ -93,63 +98,45 @@ module _ (c : Column) (r : ℕ) where
         to-offset : to ≡ offset_at c (suc r)
         to-offset = b ∙ ap (number_at c.table.offset_width c.offsets) (add-one r) ∙ sym (offset_at-number c (suc r))
 
-        pub row_at : At from to ≡ row_found c r
-        unfolding row_found
-        row_at = rw (found v z, from-offset, to-offset)
-
         pub row_inside : (from ≤ to) × (to ≤ length c.«data»)
         row_inside = (rw (from-offset, to-offset) (rises 1 c facts r h), rw (to-offset) (omega (arith, below 1 c facts (suc r) h)))
 
+        -- its bytes
+        row-bytes : part from (to - from) c.«data» ≡ (rows_of c).bytes r
+        row-bytes = rw (from-offset, to-offset, rows_of-by c, (variable-bytes c k).1, mul-one (offset_at c r), mul-one (offset_at c (suc r) - offset_at c r))
+
+        pub row_at : (d : Bor (List ℕ)) → Some (record { ref_ptr = place_of from d.ref_ptr; now = part from (to - from) c.«data» }) ≡ row_found d c r
+        unfolding row_found
+        row_at d = rw (found v z, row-bytes, from-offset)
+
 -- ---- what is handed back, by what was found
 
--- the start, the bytes and the presence of what was found
-abbrev start_of : Found → ℕ
-start_of (At from to) = from
-start_of Nothing = 0
+module _ (d : Bor (List ℕ)) (c : Column) (r : ℕ) {f : Option (Bor (List ℕ))} (e : f ≡ row_found d c r) where
+  abbrev the_row : Bor (List ℕ)
+  the_row = record { ref_ptr = place_of (offset_at c r) d.ref_ptr; now = (rows_of c).bytes r }
 
-abbrev bytes_of : List ℕ → Found → List ℕ
-bytes_of s (At from to) = part from (to - from) s
-bytes_of s Nothing = []
-
-abbrev is_there : Found → Bool
-is_there (At from to) = true
-is_there Nothing = false
-
-pub inside_found : (s : List ℕ) {f : Found} {from to : ℕ} → Inside f s → f ≡ At from to → (from ≤ to) × (to ≤ length s)
-inside_found s w e = rw e at w
-
-module _ (c : Column) (r : ℕ) {f g : Found} (e : f ≡ row_found c r) (d : f ≡ g) where
-  by : {A : Type 0} (look : Found → A) (y n : A) → (has_row c r ≡ true → look (At (offset_at c r) (offset_at c (suc r))) ≡ y) → look Nothing ≡ n
-      → look g ≡ cond (has_row c r) y n
+  pub there-found : is_some f ≡ has_row c r
   unfolding row_found
-  by look y n h k = ap look (sym d ∙ e) ∙ go (has_row c r) h
+  there-found = rw e (go (has_row c r))
     where
-      go : (t : Bool) → (t ≡ true → look (At (offset_at c r) (offset_at c (suc r))) ≡ y) → look (cond t (At (offset_at c r) (offset_at c (suc r))) Nothing) ≡ cond t y n
-      go true h = h refl
-      go false h = k
+      go : (t : Bool) → is_some {T = Bor (List ℕ)} (cond t (Some the_row) None) ≡ t
+      go true = refl
+      go false = refl
 
-  start-found : start_of g ≡ row_start c r
-  unfolding row_start
-  start-found = by start_of (offset_at c r) 0 (λ t. refl) refl
+  -- or, where nothing was found, a part z
+  module _ (z : Bor (List ℕ)) {y : Bor (List ℕ)} (g : y ≡ unwrap_or f z) where
+    pub place-found : z.ref_ptr ≡ place_of 0 d.ref_ptr → y.ref_ptr ≡ place_of (row_start c r) d.ref_ptr
+    unfolding row_found row_start
+    place-found h = rw (g, e) (go (has_row c r))
+      where
+        go : (t : Bool) → (unwrap_or {T = Bor (List ℕ)} (cond t (Some the_row) None) z).ref_ptr ≡ place_of (cond t (offset_at c r) 0) d.ref_ptr
+        go true = refl
+        go false = h
 
-  pub place_found : (p : ℕ × ℕ) → place_of (start_of g) p ≡ place_of (row_start c r) p
-  place_found p = ap (λ (n : ℕ). place_of n p) start-found
-
-  pub bytes-found : bytes_of c.«data» g ≡ read_row c r
-  unfolding read_row has_row
-  bytes-found = by (bytes_of c.«data») ((rows_of c).bytes r) [] row refl
-    where
-      row : has_row c r ≡ true → part (offset_at c r) (offset_at c (suc r) - offset_at c r) c.«data» ≡ (rows_of c).bytes r
-      row t =
-          let A : Bool = passes (column_refusal c) in
-          let B : Bool = eqb c.table.kind 3 in
-          let C : Bool = ltb r c.table.rows in
-          let k : B ≡ true = (and-true A B (and-true (A && B) C (and-true (A && B && C) ((rows_of c).valid r) t).0).0).1 in
-          rw (rows_of-by c, (variable-bytes c (eqb-true c.table.kind 3 k)).1, mul-one (offset_at c r), mul-one (offset_at c (suc r) - offset_at c r))
-
-  pub there-found : is_there g ≡ has_row c r
-  there-found = by is_there true false (λ t. refl) refl ∙ itself (has_row c r)
-    where
-      itself : (t : Bool) → cond t true false ≡ t
-      itself true = refl
-      itself false = refl
+    pub bytes-found : z.now ≡ [] → y.now ≡ read_row c r
+    unfolding row_found read_row
+    bytes-found h = rw (g, e) (go (has_row c r))
+      where
+        go : (t : Bool) → (unwrap_or {T = Bor (List ℕ)} (cond t (Some the_row) None) z).now ≡ cond t ((rows_of c).bytes r) []
+        go true = refl
+        go false = h

@@ -1,13 +1,10 @@
 -- What the functions of the row reader tell each other.
-use Rattle.std.specs.Prelude.{ℕ, suc, ◌≤◌, if◌then◌else◌, List, length}
+use Rattle.std.specs.Prelude.{ℕ, if◌then◌else◌, List, Option, Some, None}
+use Rattle.std.specs.Borrow.{Bor}
 use Rattle.tables.specs.Columns.{Column, offset_at}
-use Rattle.reader.specs.declared.row.Found.{Found}
-use Rattle.reader.specs.declared.row.Found.TheVariants.{At, Nothing}
-use Rattle.reader.specs.Row.{has_row}
+use Rattle.tables.specs.Rows.{rows_of}
+use Rattle.reader.specs.Row.{has_row, place_of}
 
-unfoldable pub row_found : Column → ℕ → Found
-row_found c r = if has_row c r then At (offset_at c r) (offset_at c (suc r)) else Nothing
-
-abbrev pub Inside : Found → List ℕ → Type 0
-Inside (At from to) s = (from ≤ to) × (to ≤ length s)
-Inside Nothing s = Unit {0}
+-- the row's bytes, where they lie in the data of c, which is lent as d
+unfoldable pub row_found : Bor (List ℕ) → Column → ℕ → Option (Bor (List ℕ))
+row_found d c r = if has_row c r then Some (record { ref_ptr = place_of (offset_at c r) d.ref_ptr; now = (rows_of c).bytes r }) else None

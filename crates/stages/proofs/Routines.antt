@@ -20,10 +20,10 @@ use Rattle.tables.specs.Refusals.{max_rows, max_bytes, max_bit, WellFormed}
 use Rattle.tables.specs.Bounds.{max_block, RowFits, Bounds}
 use Rattle.tables.specs.Rows.{Rows, rows_of}
 use Rattle.gathers.specs.Taken.{take_rows}
-use Rattle.gathers.specs.Stored.{validity_bytes, data_bytes, data_length, null_count, store_offsets}
+use Rattle.gathers.specs.Stored.{validity_bytes, data_bytes, data_length, null_count}
 use Rattle.gathers.specs.Ready.{InRange, Ready}
 use Rattle.gathers.specs.Buffers.{taken_bit, taken_bit_valid, Validates, taken_block, PicksValid}
-use Rattle.bitmaps.specs.Reach.{HoldsBits, MaskThere}
+use Rattle.bitmaps.specs.Reach.{HoldsBits}
 use Rattle.fixed.specs.Blocked.{Blocked}
 use Rattle.bits.proofs.Tests.{or-false}
 use Rattle.bits.proofs.Bytes.{block_inside}
@@ -31,8 +31,8 @@ use Rattle.tables.proofs.Bounds.{fits-at}
 use Rattle.tables.proofs.Facts.{Formed, formed, IndexFormed, index-formed}
 use Rattle.tables.proofs.Stages.{sized-row-fits, sized-bounds, well-formed-sized}
 use Rattle.tables.proofs.Views.{kind_at-number, layout_at-kind}
-use Rattle.gathers.proofs.Buffers.{valid-below, validity-by-buffer, nulls-by-buffer, blocks-by-buffer, bits-by-buffer, picks_by, picks-in-range, picks-written, picks-mask, picks-long}
-use Rattle.gathers.proofs.Lengths.{blocks-length, bits-length, offsets-of-blocks, offsets-of-bits}
+use Rattle.gathers.proofs.Buffers.{valid-below, validity-by-buffer, nulls-by-buffer, blocks-by-buffer, bits-by-buffer, picks_by, picks-in-range, picks-written, picks-mask}
+use Rattle.gathers.proofs.Lengths.{blocks-length, bits-length}
 
 -- the kind that is left after the first five, where it is known
 last-kind : (k : Kind) → (k ≡ Unknown → ⊥) → (k ≡ Primitive → ⊥) → (k ≡ Boolean → ⊥) → (k ≡ VariableBytes → ⊥) → (k ≡ ListKind → ⊥)
@@ -47,7 +47,7 @@ last-kind Unknown u p b v l f = absurd (u refl)
 
 -- the kind and the layout, as the code finds them
 module _ (c : Column) where
-  pub kind-told : {k m : Kind} → k ≡ kind_of c.table.kind → k ≡ m → kind_at c ≡ m
+  kind-told : {k m : Kind} → k ≡ kind_of c.table.kind → k ≡ m → kind_at c ≡ m
   kind-told e d = kind_at-number c ∙ sym e ∙ d
 
   pub layout-by : {k : Kind} → kind_at c ≡ k → layout_at c ≡ layout_of k c.table.width c.table.size
@@ -59,6 +59,11 @@ module _ (c : Column) where
   pub sixth : WellFormed c → {k : Kind} → k ≡ kind_of c.table.kind → (k ≡ Primitive → ⊥) → (k ≡ Boolean → ⊥) → (k ≡ VariableBytes → ⊥)
       → (k ≡ ListKind → ⊥) → (k ≡ FixedSizeList → ⊥) → kind_at c ≡ FixedSizeBinary
   sixth w {k} e p b v l f = kind-told e (last-kind k (λ u. known w (kind-told e u)) p b v l f)
+
+-- the room that bits need
+pub bits-room : (c : Column) (x : IndexColumn) → layout_at c ≡ BitMap → {room : ℕ} → data_length (layout_at c) (take_rows (rows_of c) x) ≤ room
+    → bytes_for x.indices.count ≤ room
+bits-room c x e room = rw (bits-length c x e) at room
 
 module _ (c : Column) (x : IndexColumn) (r : Ready c x) where
   pub ready-row-fits : {k : Kind} → k ≡ kind_of c.table.kind → RowFits k c.table
@@ -104,19 +109,27 @@ module _ (c : Column) (x : IndexColumn) (r : Ready c x) where
   pub nulls-counted : {n : ℕ} → n ≡ sum x.indices.count (λ j. bit_value (not (taken_bit_valid c.validity c.table.validity_bit x j))) → n ≡ null_count v
   nulls-counted h = h ∙ sym (nulls-by-buffer c x)
 
+  -- the bits of a column of them
+  module _ (bits : layout_at c ≡ BitMap) where
+    pub data-held : HoldsBits c.table.data_bit c.table.rows c.«data»
+    data-held = record {
+      small = facts.«data»;
+      there = ltb-false (length c.«data») (bytes_for (c.table.data_bit + c.table.rows)) (rw bits at facts.data_fit);
+    }
+
   -- ---- values, gathered by the validity that was written
 
   -- what of it is shown to the routines picks the valid output rows
-  pub picked : {s t : List ℕ} → Validates c.validity c.table.validity_bit x s → {nulls : ℕ} → nulls ≡ null_count v
-      → t ≡ cond (eqb nulls 0) [] (part 0 (bytes_for x.indices.count) s) → PicksValid c.validity c.table.validity_bit x (picks_by x t)
-  picked d e g = rw g (picks-written ready-indices d (e ∙ nulls-by-buffer c x))
-
-  module _ {t : List ℕ} (p : PicksValid c.validity c.table.validity_bit x (picks_by x t)) where
+  module _ {s t : List ℕ} (d : Validates c.validity c.table.validity_bit x s) {nulls : ℕ} (counted : nulls ≡ null_count v)
+      (shown : t ≡ cond (eqb nulls 0) [] (part 0 (bytes_for x.indices.count) s)) where
     abbrev y : IndexColumn
     y = picks_by x t
 
-    pub picked-range : InRange c.table.rows y
-    picked-range = picks-in-range p c.table.rows r.indices
+    picked : PicksValid c.validity c.table.validity_bit x y
+    picked = rw shown (picks-written ready-indices d (counted ∙ nulls-by-buffer c x))
+
+    picked-range : InRange c.table.rows y
+    picked-range = picks-in-range picked c.table.rows r.indices
 
     -- ---- blocks
 
@@ -125,7 +138,7 @@ module _ (c : Column) (x : IndexColumn) (r : Ready c x) where
       blocked room =
           let there : c.table.rows * n ≤ length c.«data» = ltb-false (length c.«data») (c.table.rows * n) (rw e at facts.data_fit) in
           record {
-            passed = p.passed;
+            passed = picked.passed;
             first = refl;
             size = ready-block n e;
             there = λ j h g. omega (arith, block_inside (index y j) c.table.rows n (valid-below c.table.rows y picked-range j h g), there);
@@ -133,29 +146,11 @@ module _ (c : Column) (x : IndexColumn) (r : Ready c x) where
           }
 
       pub blocks-stored : (s : List ℕ) {d : List ℕ} → d ≡ overwrite (concat x.indices.count (taken_block n c.«data» y)) s → d ≡ overwrite (data_bytes (layout_at c) v) s
-      blocks-stored s h = rw (blocks-by-buffer c x p n e) h
-
-      pub blocks-keep : (s : List ℕ) → s ≡ store_offsets (layout_at c) v s
-      blocks-keep s = sym (offsets-of-blocks c x n s e)
+      blocks-stored s h = rw (blocks-by-buffer c x picked n e) h
 
     -- ---- bits
 
     module _ (e : layout_at c ≡ BitMap) where
-      pub data-held : HoldsBits c.table.data_bit c.table.rows c.«data»
-      data-held = record {
-        small = facts.«data»;
-        there = ltb-false (length c.«data») (bytes_for (c.table.data_bit + c.table.rows)) (rw e at facts.data_fit);
-      }
-
-      pub bits-room : {room : ℕ} → data_length (layout_at c) v ≤ room → bytes_for x.indices.count ≤ room
-      bits-room room = rw (bits-length c x e) at room
-
-      pub mask-held : MaskThere x.indices.count t
-      mask-held = picks-long x t p
-
       pub bits-stored : (s : List ℕ) {d : List ℕ} → d ≡ overwrite (pack x.indices.count (λ j. taken_bit c.«data» c.table.data_bit x j && valid_at t 0 j)) s
           → d ≡ overwrite (data_bytes (layout_at c) v) s
-      bits-stored s h = rw (bits-by-buffer c x t (picks-mask x t p) e) h
-
-      pub bits-keep : (s : List ℕ) → s ≡ store_offsets (layout_at c) v s
-      bits-keep s = sym (offsets-of-bits c x s e)
+      bits-stored s h = rw (bits-by-buffer c x t (picks-mask x t picked) e) h

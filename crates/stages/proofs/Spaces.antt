@@ -1,9 +1,8 @@
 -- Refusal 7 by lengths is the definition's (specs/Space.antt), and what its functions ask of a table. Assumes nothing.
-use mathlib.Core.Path.{◌≡◌, refl, sym, ap, ◌∙◌}
+use mathlib.Core.Path.{◌≡◌, refl, sym}
 use Prim.Native.Nat.{ℕ}
 use Rattle.tables.specs.declared.table.Layout.{Layout}
 use Rattle.tables.specs.declared.table.Layout.TheVariants.{FixedWidth, BitMap, VariableWidth}
-use Rattle.tables.specs.declared.refusal.Answer.{Answer}
 use Rattle.tables.specs.declared.table.Lengths.{Lengths}
 use Rattle.tables.specs.Kinds.{kind_of, layout_of}
 use Rattle.tables.specs.Columns.{Column, IndexColumn, kind_at, layout_at}
@@ -11,14 +10,12 @@ use Rattle.tables.specs.Refusals.{WellFormed}
 use Rattle.tables.specs.Bounds.{RowFits, Bounds}
 use Rattle.tables.specs.Rows.{rows_by, rows_of}
 use Rattle.gathers.specs.Taken.{take_rows}
-use Rattle.gathers.specs.Stored.{Output, lent_lengths, offset_length, data_length, needed_lengths}
+use Rattle.gathers.specs.Stored.{offset_length, data_length, needed_lengths}
 use Rattle.tables.specs.Answers.{first_of}
 use Rattle.gathers.specs.Gather.{space_lines}
-use Rattle.gathers.specs.Stages.{space_refusal}
 use Rattle.stages.specs.Space.{offset_bytes_for, lengths_for, lengths_refusal}
 use Rattle.tables.proofs.Stages.{layout-told, sized-row-fits, sized-bounds, well-formed-sized}
 use Rattle.tables.proofs.Views.{rows_of-by}
-use Rattle.gathers.proofs.Stages.{space_refusal-lines}
 
 pub lengths_refusal-lines : (needed lent : Lengths) → lengths_refusal needed lent ≡ first_of (space_lines needed lent)
 unfolding lengths_refusal
@@ -52,13 +49,3 @@ module _ (c : Column) where
     pub needed-told : {total : ℕ} → total ≡ data_length (rows_of c).layout (take_rows (rows_of c) x)
         → lengths_for (layout_of (kind_of c.table.kind) c.table.width c.table.size) c.table.offset_width x.indices.count total ≡ needed_lengths (take_rows (rows_of c) x)
     needed-told e = rw (e, sym told, offsets-length)
-
-    space-told : (o : Output) {total : ℕ} → total ≡ data_length (rows_of c).layout (take_rows (rows_of c) x)
-        → lengths_refusal (lengths_for (layout_of (kind_of c.table.kind) c.table.width c.table.size) c.table.offset_width x.indices.count total) (lent_lengths o)
-        ≡ space_refusal (take_rows (rows_of c) x) o
-    space-told o e = lengths_refusal-lines _ _ ∙ ap (λ (n : Lengths). first_of (space_lines n (lent_lengths o))) (needed-told e) ∙ sym (space_refusal-lines (take_rows (rows_of c) x) o)
-
-    pub space-checked : (o : Output) {a : Answer} {needed : Lengths} {total : ℕ} → a ≡ lengths_refusal needed (lent_lengths o)
-        → needed ≡ lengths_for (layout_of (kind_of c.table.kind) c.table.width c.table.size) c.table.offset_width x.indices.count total
-        → total ≡ data_length (rows_of c).layout (take_rows (rows_of c) x) → a ≡ space_refusal (take_rows (rows_of c) x) o
-    space-checked o e d t = e ∙ ap (λ (n : Lengths). lengths_refusal n (lent_lengths o)) d ∙ space-told o t

@@ -1,50 +1,27 @@
 // The size of the data output of every kind, with refusal 6. Only columns of variable width have a running total that can pass their offsets.
 ghost use Rattle.std.specs.Prelude.{◌≡◌};
-ghost use Rattle.tables.specs.Columns.{column_at, index_column_at};
+ghost use Rattle.tables.specs.Columns.{column_of, index_column_of};
 ghost use Rattle.gathers.specs.Taken.{taken};
 ghost use Rattle.gathers.specs.Stages.{measured};
 ghost use Rattle.gathers.specs.Ready.{Ready};
 ghost use Rattle.variable.specs.Measured.{measured_numbers};
 
-use kinds::kind::{kind_of, layout_of};
-use tables::refusal::Checked;
-use tables::table::{Indices, Layout, Table};
-use variable::total::{Measured, measure_variable};
+use kinds::kind::layout_of;
+use tables::column::{Column, IndexColumn};
+use tables::refusal::Refusal;
+use tables::table::{Kind, Layout};
+use variable::total::measure_variable;
 
-pub fn measure(
-    table: Table,
-    data: &[u8],
-    offsets: &[u8],
-    validity: &[u8],
-    indices: Indices,
-    index_data: &[u8],
-    index_validity: &[u8],
-) -> Measured
-    requires { Ready (column_at table «data» offsets validity) (index_column_at indices index_data index_validity) }
-    ensures { measured_numbers result ≡ measured (taken
-        (column_at table «data».entry offsets.entry validity.entry)
-        (index_column_at indices index_data.entry index_validity.entry)) }
+pub fn measure(column: &Column<'_>, indices: &IndexColumn<'_>) -> Result<u64, Refusal>
+    requires { Ready (column_of column.now) (index_column_of indices.now) }
+    ensures { measured_numbers result ≡ measured (taken (column_of column.now) (index_column_of indices.now)) }
 {
-    let kind = kind_of(table.kind);
-    let layout = layout_of(kind, table);
+    let count = indices.indices.count;
+    let kind = Kind::from(column.table.kind);
+    let layout = layout_of(kind, column.table);
     match layout {
-        Layout::FixedWidth(n) => Measured {
-            checked: Checked::Fit,
-            total: indices.count * n,
-        },
-        Layout::BitMap => Measured {
-            checked: Checked::Fit,
-            total: (indices.count + 7) / 8,
-        },
-        Layout::VariableWidth(unit) => measure_variable(
-            table,
-            data,
-            offsets,
-            validity,
-            indices,
-            index_data,
-            index_validity,
-            unit,
-        ),
+        Layout::FixedWidth(n) => Ok(count * n),
+        Layout::BitMap => Ok((count + 7) / 8),
+        Layout::VariableWidth(unit) => measure_variable(column, indices, unit),
     }
 }

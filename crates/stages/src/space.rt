@@ -6,9 +6,9 @@ ghost use Rattle.tables.specs.Refusals.{max_rows};
 ghost use Rattle.tables.specs.Bounds.{RowFits, Bounds};
 ghost use Rattle.stages.specs.Space.{offset_bytes_for, lengths_for, lengths_refusal};
 
-use kinds::kind::{kind_of, layout_of};
-use tables::refusal::{Checked, Refusal};
-use tables::table::{Layout, Lengths, Table};
+use kinds::kind::layout_of;
+use tables::refusal::Refusal;
+use tables::table::{Kind, Layout, Lengths, Table};
 
 fn offset_length(layout: Layout, table: Table, count: u64) -> u64
     requires bounds { Bounds layout table }
@@ -29,7 +29,7 @@ pub fn needed_lengths(table: Table, count: u64, data: u64) -> Lengths
     requires few { count ≤ max_rows }
     ensures { result ≡ lengths_for (layout_of (kind_of table.kind) table.width table.size) table.offset_width count «data» }
 {
-    let kind = kind_of(table.kind);
+    let kind = Kind::from(table.kind);
     let layout = layout_of(kind, table);
     Lengths {
         validity: (count + 7) / 8,
@@ -38,28 +38,28 @@ pub fn needed_lengths(table: Table, count: u64, data: u64) -> Lengths
     }
 }
 
-// The first output that is shorter than it needs to be.
+// The first output that is shorter than it needs to be. Its place is a number, which C is given: 1 the validity, 2 the offsets, 3 the data.
 #[tactic(auto, unfolding(crate::specs::Space::lengths_refusal))]
-pub fn check_space(needed: Lengths, lent: Lengths) -> Checked
+pub fn check_space(needed: Lengths, lent: Lengths) -> Result<(), Refusal>
     ensures { checked_numbers result ≡ lengths_refusal needed lent }
 {
     if lent.validity < needed.validity {
-        return Checked::Unfit(Refusal::Space {
+        return Err(Refusal::Space {
             place: 1,
             total: needed.validity,
         });
     }
     if lent.offsets < needed.offsets {
-        return Checked::Unfit(Refusal::Space {
+        return Err(Refusal::Space {
             place: 2,
             total: needed.offsets,
         });
     }
     if lent.data < needed.data {
-        return Checked::Unfit(Refusal::Space {
+        return Err(Refusal::Space {
             place: 3,
             total: needed.data,
         });
     }
-    Checked::Fit
+    Ok(())
 }

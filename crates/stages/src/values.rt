@@ -4,17 +4,19 @@ ghost use Rattle.std.specs.Prelude.{◌≡◌, if◌then◌else◌, [], ◌≤�
 ghost use Rattle.bits.specs.Bytes.{part};
 ghost use Rattle.bits.specs.Bits.{bytes_for};
 ghost use Rattle.tables.specs.Refusals.{max_rows};
-ghost use Rattle.tables.specs.Columns.{column_at, index_column_at};
+ghost use Rattle.tables.specs.Columns.{column_of, index_column_of};
 ghost use Rattle.gathers.specs.Taken.{taken};
 ghost use Rattle.gathers.specs.Stored.{null_count};
 ghost use Rattle.gathers.specs.Ready.{Ready, NoOverflow, HasRoom, stored_offsets, stored_data};
 ghost use Rattle.gathers.specs.Buffers.{Validates};
 
+use bitmaps::bit::BooleanBuffer;
+use blocks::zeros::Zeros;
 use fixed::take::{
     take_boolean, take_fixed_size_binary, take_fixed_size_list_primitive, take_native,
 };
-use kinds::kind::kind_of;
-use tables::table::{Indices, Kind, Table};
+use tables::column::{Column, IndexColumn};
+use tables::table::{Indices, Kind};
 use variable::take::{take_bytes, take_list};
 
 // The bytes that hold the validity of the output rows; none where no row is null, so that nothing is tested then.
@@ -30,87 +32,55 @@ fn shown<'a>(out_validity: &'a [u8], count: u64, nulls: u64) -> &'a [u8]
 }
 
 pub fn take_values(
-    table: Table,
-    data: &[u8],
-    offsets: &[u8],
-    validity: &[u8],
-    indices: Indices,
-    index_data: &[u8],
-    index_validity: &[u8],
+    column: &Column<'_>,
+    indices: &IndexColumn<'_>,
     nulls: u64,
     out_validity: &[u8],
     out_offsets: &mut [u8],
     out_data: &mut [u8],
 )
-    requires ready { Ready (column_at table «data» offsets validity) (index_column_at indices index_data index_validity) }
-    requires has_room { HasRoom (column_at table «data» offsets validity) (index_column_at indices index_data index_validity) out_offsets.old out_data.old }
-    requires nulls { nulls ≡ null_count (taken (column_at table «data» offsets validity) (index_column_at indices index_data index_validity)) }
-    requires no_overflow { NoOverflow (column_at table «data» offsets validity) (index_column_at indices index_data index_validity) }
-    requires validates { Validates validity.now table.validity_bit (index_column_at indices index_data index_validity) out_validity.now }
-    ensures offsets_stored { out_offsets.new ≡ stored_offsets
-        (column_at table «data».entry offsets.entry validity.entry)
-        (index_column_at indices index_data.entry index_validity.entry)
-        out_offsets.old }
-    ensures data_stored { out_data.new ≡ stored_data
-        (column_at table «data».entry offsets.entry validity.entry)
-        (index_column_at indices index_data.entry index_validity.entry)
-        out_data.old }
+    requires ready { Ready (column_of column.now) (index_column_of indices.now) }
+    requires has_room { HasRoom (column_of column.now) (index_column_of indices.now) out_offsets.old out_data.old }
+    requires nulls { nulls ≡ null_count (taken (column_of column.now) (index_column_of indices.now)) }
+    requires no_overflow { NoOverflow (column_of column.now) (index_column_of indices.now) }
+    requires validates { Validates column.now.validity.now column.now.table.validity_bit (index_column_of indices.now) out_validity.now }
+    ensures offsets_stored { out_offsets.new ≡ stored_offsets (column_of column.now) (index_column_of indices.now) out_offsets.old }
+    ensures data_stored { out_data.new ≡ stored_data (column_of column.now) (index_column_of indices.now) out_data.old }
 {
-    let kind = kind_of(table.kind);
-    let valid = shown(out_validity, indices.count, nulls);
+    let table = column.table;
+    let data = column.data;
+    let kind = Kind::from(table.kind);
+    let valid = shown(out_validity, indices.indices.count, nulls);
+    // the indices with the validity of the output rows in place of their own
+    let picks = IndexColumn {
+        indices: Indices {
+            validity_bit: 0,
+            ..indices.indices
+        },
+        data: indices.data,
+        validity: valid,
+    };
     // what null rows are copied from: here, and not where they are copied, for the compiler's sake (widths/src/dispatch.rt)
     let zeros = [0u8; 32];
-    let picks = Indices {
-        width: indices.width,
-        count: indices.count,
-        validity_bit: 0,
-    };
+    let zeros = Zeros { bytes: &zeros };
     let width = table.width as usize;
     let size = table.size as usize;
     match kind {
-        Kind::Primitive => { take_native(data, width, picks, index_data, valid, &zeros, out_data) }
+        Kind::Primitive => take_native(data, width, &picks, zeros, out_data),
         Kind::Boolean => {
-            take_boolean(
-                data,
-                table.data_bit as usize,
-                table.rows,
-                indices,
-                index_data,
-                index_validity,
-                valid,
-                out_data,
-            )
+            let values = BooleanBuffer {
+                values: data,
+                offset: table.data_bit as usize,
+                len: table.rows,
+            };
+            take_boolean(&values, indices, valid, out_data)
         }
-        Kind::VariableBytes => take_bytes(
-            table,
-            data,
-            offsets,
-            validity,
-            indices,
-            index_data,
-            index_validity,
-            out_validity,
-            out_offsets,
-            out_data,
-        ),
-        Kind::List => take_list(
-            table,
-            data,
-            offsets,
-            validity,
-            indices,
-            index_data,
-            index_validity,
-            out_validity,
-            out_offsets,
-            out_data,
-        ),
+        Kind::VariableBytes => take_bytes(column, indices, out_validity, out_offsets, out_data),
+        Kind::List => take_list(column, indices, out_validity, out_offsets, out_data),
         Kind::FixedSizeList => {
-            take_fixed_size_list_primitive(
-                data, size, width, picks, index_data, valid, &zeros, out_data,
-            )
+            take_fixed_size_list_primitive(data, size, width, &picks, zeros, out_data)
         }
         // an unknown kind was refused, so the sixth is left
-        _ => { take_fixed_size_binary(data, size, picks, index_data, valid, &zeros, out_data) }
+        _ => take_fixed_size_binary(data, size, &picks, zeros, out_data),
     }
 }

@@ -1,5 +1,5 @@
 -- What is written is what the routines write, and the last offset tells how far.
-use Rattle.std.proofs.Common.{sym, ◌∙◌}
+use Rattle.std.proofs.Common.{◌∙◌}
 use Rattle.gathers.specs.Stored.{output_at}
 use Rattle.tables.proofs.Stages.{layout-told}
 use Rattle.gathers.proofs.Buffers.{validates}
@@ -8,13 +8,12 @@ use Rattle.stages.proofs.Spaces.{rows_fit, bounds-told}
 use Rattle.described.proofs.Columns.{room-by-layout, data-told, offsets-in, taken-told, all-stored}
 use Rattle.described.proofs.column.take_column.Goals as goal
 
-pub take_nulls-nulls-requires-clause-holds_bits : goal.take_nulls-nulls-requires-clause-holds_bits
-take_nulls-nulls-requires-clause-holds_bits c = validity-held _ _ c.requires.ready
+pub invariant_of-validity : goal.invariant_of-validity
+invariant_of-validity c = record { held = validity-held _ _ c.requires.ready }
 
 pub take_values-requires-clause-has_room : goal.take_values-requires-clause-has_room
 take_values-requires-clause-has_room c =
-    let o = output_at c.args.out_validity.now c.args.out_offsets.now c.args.out_data.now in
-    room-by-layout _ _ o c.requires.has_room_for
+    room-by-layout _ _ (output_at c.args.out_validity.now c.args.out_offsets.now c.args.out_data.now) c.requires.has_room_for
 
 pub take_values-requires-clause-nulls : goal.take_values-requires-clause-nulls
 take_values-requires-clause-nulls c = nulls-counted _ _ c.requires.ready c.take_nulls-nulls.ensures.nulls
@@ -23,13 +22,12 @@ pub take_values-requires-clause-validates : goal.take_values-requires-clause-val
 take_values-requires-clause-validates c = validates _ _ _ _ c.requires.has_room_for.validity c.take_nulls-nulls.ensures.validity_stored
 
 pub layout_of-layout-requires : goal.layout_of-layout-requires
-layout_of-layout-requires c = ready-row-fits _ _ c.requires.ready c.kind_of-kind.ensures
+layout_of-layout-requires c = ready-row-fits _ _ c.requires.ready c.from-kind.ensures
 
 pub data_written-written-requires : goal.data_written-written-requires
 data_written-written-requires c =
-    let o = output_at c.args.out_validity.now c.args.out_offsets.now c.args.out_data.now in
-    let l = layout-told _ c.kind_of-kind.ensures c.layout_of-layout.ensures in
-    offsets-in _ _ c.requires.ready c.requires.no_overflow _ c.take_values.ensures.offsets_stored l (room-by-layout _ _ o c.requires.has_room_for).0
+    let l = layout-told _ c.from-kind.ensures c.layout_of-layout.ensures in
+    offsets-in _ _ c.requires.ready c.requires.no_overflow _ c.take_values.ensures.offsets_stored l (room-by-layout _ _ (output_at c.args.out_validity.now c.args.out_offsets.now c.args.out_data.now) c.requires.has_room_for).0
 
 pub needed_lengths-needed-requires : goal.needed_lengths-needed-requires
 needed_lengths-needed-requires c =
@@ -41,7 +39,7 @@ returns c =
     let r = c.requires.ready in
     let n = c.take_nulls-nulls.ensures in
     let d = c.take_values.ensures in
-    let l = layout-told _ c.kind_of-kind.ensures c.layout_of-layout.ensures in
+    let l = layout-told _ c.from-kind.ensures c.layout_of-layout.ensures in
     record {
       told = taken-told _ _ (nulls-counted _ _ r n.nulls) c.needed_lengths-needed.ensures (c.data_written-written.ensures ∙ data-told _ _ r c.requires.no_overflow _ d.offsets_stored l);
       stored = all-stored _ _ _ (validity-stored _ _ r _ n.validity_stored) d.offsets_stored d.data_stored;

@@ -1,28 +1,21 @@
 -- The column of the parts is the column that the body holds.
 use Rattle.std.proofs.Common.{sym, ap, subst, ◌∙◌}
-use Rattle.tables.specs.Columns.{Column, index_column_at}
+use Rattle.tables.specs.Columns.{Column, index_column_of}
 use Rattle.gathers.specs.Taken.{taken}
 use Rattle.gathers.specs.Stored.{output_at, store}
 use Rattle.gathers.specs.Ready.{Ready, NoOverflow}
 use Rattle.described.specs.Taken.{taken_of, HasRoomFor}
-use Rattle.tables.proofs.Bodies.{uncut-data, uncut-validity}
-use Rattle.described.proofs.Placed.{well-formed-whole, offsets-there, placed}
+use Rattle.described.proofs.Placed.{well-formed-whole, whole-uncut, placed}
 use Rattle.described.proofs.in_body.take_described.Goals as goal
 
-pub buffer-data-requires : goal.buffer-data-requires
-buffer-data-requires c = uncut-data _ _ (well-formed-whole _ _ c.requires.ready.column)
-
-pub offsets_buffer-offsets-requires : goal.offsets_buffer-offsets-requires
-offsets_buffer-offsets-requires c = offsets-there _ _ c.kind_of.ensures c.uses_of-uses.ensures (well-formed-whole _ _ c.requires.ready.column)
-
-pub buffer-validity-requires : goal.buffer-validity-requires
-buffer-validity-requires c = uncut-validity _ _ (well-formed-whole _ _ c.requires.ready.column)
+pub column_in-column-requires : goal.column_in-column-requires
+column_in-column-requires c = whole-uncut _ _ c.from.ensures c.uses_of-uses.ensures (well-formed-whole _ _ c.requires.ready.column)
 
 pub take_column-requires : goal.take_column-requires
 take_column-requires c =
-    let x = index_column_at c.args.indices c.args.index_data c.args.index_validity in
+    let x = index_column_of c.args.indices.now in
     let o = output_at c.args.out_validity.now c.args.out_offsets.now c.args.out_data.now in
-    let e = sym (placed _ _ c.kind_of.ensures c.uses_of-uses.ensures (well-formed-whole _ _ c.requires.ready.column) c.buffer-data.ensures c.offsets_buffer-offsets.ensures c.buffer-validity.ensures) in
+    let e = sym (placed _ _ c.from.ensures c.uses_of-uses.ensures c.column_in-column.ensures) in
     record {
       ready = subst (λ (b : Column). Ready b x) e c.requires.ready;
       no_overflow = subst (λ (b : Column). NoOverflow b x) e c.requires.no_overflow;
@@ -31,8 +24,8 @@ take_column-requires c =
 
 pub returns : goal.returns
 returns c =
-    let x = index_column_at c.args.indices c.args.index_data c.args.index_validity in
+    let x = index_column_of c.args.indices.now in
     let o = output_at c.args.out_validity.now c.args.out_offsets.now c.args.out_data.now in
-    let e = placed _ _ c.kind_of.ensures c.uses_of-uses.ensures (well-formed-whole _ _ c.requires.ready.column) c.buffer-data.ensures c.offsets_buffer-offsets.ensures c.buffer-validity.ensures in
+    let e = placed _ _ c.from.ensures c.uses_of-uses.ensures c.column_in-column.ensures in
     let t = c.take_column.ensures in
     record { told = t.told ∙ ap (λ (b : Column). taken_of (taken b x)) e; stored = t.stored ∙ ap (λ (b : Column). store (taken b x) o) e }

@@ -1,21 +1,19 @@
 -- By what the tests answer, and for the blanked table because its gather is the same.
-use Rattle.gathers.specs.Stored.{output_at}
 use Rattle.entries.proofs.Gathering.{both, turned-away, ready, overflow-passed, room, all-stored}
 use Rattle.entries.proofs.take.take.Goals as goal
 
 pub take_column-taken-requires : goal.take_column-taken-requires
 take_column-taken-requires c =
-    let o = output_at c.args.out_validity.now c.args.out_offsets.now c.args.out_data.now in
     record {
-      ready = ready _ _ o c.check-checked.ensures c.in_default.is;
-      no_overflow = overflow-passed _ _ o c.check-checked.ensures c.in_default.is;
-      has_room_for = room _ _ o c.check-checked.ensures c.in_default.is;
+      ready = ready _ _ _ c.check.ensures c.in_default.is;
+      no_overflow = overflow-passed _ _ _ c.check.ensures c.in_default.is;
+      has_room_for = room _ _ _ c.check.ensures c.in_default.is;
     }
 
 pub returns-in_default : goal.returns-in_default
 returns-in_default c =
     let t = c.take_column-taken.ensures in
-    both _ _ _ (all-stored _ _ _ c.check-checked.ensures c.in_default.is c.take_column-taken.result t.told t.stored)
+    both _ _ _ (all-stored _ _ _ c.check.ensures c.in_default.is c.take_column-taken.result t.told t.stored)
 
 pub returns : goal.returns
-returns c = both _ _ _ (turned-away _ _ _ c.check-checked.ensures c.in-Unfit.is)
+returns c = both _ _ _ (turned-away _ _ _ c.check.ensures c.in-Err.is)
