@@ -2,30 +2,27 @@
 use mathlib.Core.Path.{◌≡◌, refl, sym, ap, ◌∙◌, subst}
 use mathlib.Core.Bool.{true, false, true≢false}
 use mathlib.Core.List.{List}
-use Prim.Native.Nat.{ℕ, zero, suc, ◌+◌, ◌*◌, ◌≤◌, ◌<◌}
+use Prim.Native.Nat.{ℕ, suc, ◌+◌, ◌*◌, ◌≤◌, ◌<◌}
 use native.Mathlib.Nat.{not-suc-le-zero, mul-le-mul_right}
-use native.Mathlib.Numerals.{add-one}
 use native.Mathlib.Omega.{arith}
-use lib.ListN.{length}
-use borrow.Author.Tests.{ltb-false, eq-eqb}
+use borrow.Author.Tests.{eq-eqb}
 use lib.Dec.{eqb}
 use Rattle.bits.specs.Sequences.{sum}
-use Rattle.tables.specs.declared.refusal.Checked.{Checked}
-use Rattle.tables.specs.declared.refusal.Checked.TheVariants.{Fit, Unfit}
+use Rattle.std.specs.Prelude.{Result, Ok, Err}
+use Rattle.std.proofs.lemmas.Result.{IfOk-at_ok}
+use Rattle.tables.specs.Stages.{checked_numbers}
 use Rattle.tables.specs.declared.refusal.Refusal.{Refusal}
 use Rattle.tables.specs.declared.table.Table.{Table}
 use Rattle.tables.specs.declared.table.Lengths.{Lengths}
 use Rattle.tables.specs.declared.table.Description.{Description}
-use Rattle.tables.specs.Columns.{IndexColumn}
-use Rattle.tables.specs.Bodies.{record_bytes, described_at, column_in}
+use Rattle.tables.specs.Columns.{Column, IndexColumn}
+use Rattle.tables.specs.Bodies.{described_at, column_in}
 use Rattle.tables.specs.Answers.{passes, Line, lines_of, first_of}
 use Rattle.tables.specs.Refusals.{max_rows, max_bytes}
-use Rattle.tables.specs.Rows.{Rows}
-use Rattle.gathers.specs.Stored.{needed_lengths, joined_lengths}
+use Rattle.gathers.specs.Stored.{needed_lengths}
 use Rattle.gathers.specs.Gather.{through_lines}
 use Rattle.gathers.specs.Ready.{InRange}
-use Rattle.batches.specs.Batch.{Batch, batch_in, taken_from, batch_lines}
-use Rattle.described.specs.declared.column.Through.{Through}
+use Rattle.batches.specs.Batch.{Batch, taken_from, batch_lines}
 use Rattle.arrays.specs.Told.{AllToldOf}
 use Rattle.bits.proofs.Sequences.{below_suc, sum-le, sum-const}
 use Rattle.tables.proofs.Bodies.{column-table}
@@ -33,9 +30,9 @@ use Rattle.tables.proofs.Lines.{none-met-passes, none-met-accepts, lines-pass, l
 use Rattle.gathers.proofs.Stages.{through-refusing}
 use Rattle.gathers.proofs.Joining.{needed-small}
 use Rattle.batches.proofs.Refused.{columns-refusing}
-use Rattle.batches.proofs.Passed.{few-columns, all-described, rows-equal, column-ready}
+use Rattle.batches.proofs.Passed.{few-columns, rows-equal, column-ready}
 use Rattle.described.specs.Told.{ToldOf}
-use Rattle.described.proofs.Columns.{lets-pass, refuses, not-fit}
+use Rattle.described.proofs.Columns.{lets-pass, refuses}
 
 -- the first i columns pass through overflow, and these are the lengths that they need together
 pub record Counted (b : Batch) (x : IndexColumn) (i validity offsets «data» : ℕ) : Type 0 where
@@ -70,66 +67,57 @@ module _ (b : Batch) (x : IndexColumn) where
 
   module _ {i validity offsets «data» : ℕ} (c : Counted b x i validity offsets «data») (h : i < b.count) where
     -- past the first column the index column and the range are known to pass: the rows are as many
-    pub range-known : passes (first_of (batch_lines b)) ≡ true → eqb i 0 ≡ false → InRange (b.column i).table.rows x
-    range-known p e =
+    pub range-known : passes (first_of (batch_lines b)) ≡ true → {n : ℕ} → (b.column i).table.rows ≡ n → eqb i 0 ≡ false → InRange n x
+    range-known p k e =
         let n : 0 < i = positive e in
-        subst (λ (n : ℕ). InRange n x) (sym (rows-equal b p i h)) (column-ready b x 0 (c.passed 0 n)).indices
+        subst (λ (n : ℕ). InRange n x) (sym (rows-equal b p i h) ∙ k) (column-ready b x 0 (c.passed 0 n)).indices
 
-  module _ {i validity offsets «data» : ℕ} (c : Counted b x i validity offsets «data») (h : i < b.count) (m : Through) (t : ToldOf (b.column i) x m) where
+  -- column k is tested
+  module _ {i validity offsets «data» : ℕ} (c : Counted b x i validity offsets «data») (h : i < b.count) {k : Column} (ke : k ≡ b.column i)
+      {m : Result Lengths Refusal} (kt : ToldOf k x m) where
     -- it refuses: its refusal is that of the columns
-    pub columns-refused : {r : Refusal} → m.checked ≡ Unfit r → AllToldOf b x m
+    pub columns-refused : {r : Refusal} → m ≡ Err r → AllToldOf b x (Err r)
     columns-refused f =
+        let t : ToldOf (b.column i) x m = subst (λ (k : Column). ToldOf k x m) ke kt in
         let through : ℕ → List Line = λ k. through_lines (b.column k) x in (
-          t.0 ∙ sym (lines-refused through (λ k. through-refusing (b.column k) x) b.count i h c.passed (refuses t.0 f)),
-          λ g. not-fit f g,
+          sym (ap checked_numbers f) ∙ t.0 ∙ sym (lines-refused through (λ k. through-refusing (b.column k) x) b.count i h c.passed (refuses t.0 f)),
+          tt,
         )
 
-    module _ (f : m.checked ≡ Fit) where
+    module _ {n : Lengths} (f : m ≡ Ok n) where
       all-passed : (k : ℕ) → k < suc i → passes (first_of (through_lines (b.column k) x)) ≡ true
-      all-passed = below_suc (λ (k : ℕ). passes (first_of (through_lines (b.column k) x)) ≡ true) i (lets-pass t.0 f) c.passed
+      all-passed = below_suc (λ (k : ℕ). passes (first_of (through_lines (b.column k) x)) ≡ true) i (lets-pass (subst (λ (k : Column). ToldOf k x m) ke kt).0 f) c.passed
 
-      pub counted-more : Counted b x (i + 1) (validity + m.needed.validity) (offsets + m.needed.offsets) («data» + m.needed.«data»)
-      counted-more = record {
-        inside = omega arith;
-        passed = rw add-one all-passed;
-        of-validity = rw (add-one, c.of-validity, ap (λ (n : Lengths). n.validity) (t.1 f));
-        of-offsets = rw (add-one, c.of-offsets, ap (λ (n : Lengths). n.offsets) (t.1 f));
-        of-data = rw (add-one, c.of-data, ap (λ (n : Lengths). n.«data») (t.1 f));
-      }
+      told : n ≡ need i
+      told = IfOk-at_ok (λ (n : Lengths). n ≡ need i) f (subst (λ (k : Column). ToldOf k x m) ke kt).1
 
       -- the sums are far below what a number of 64 bits holds
-      pub sums-small : b.count ≤ 32
-          → (validity + m.needed.validity ≤ 33 * (max_rows * max_bytes)) × (offsets + m.needed.offsets ≤ 33 * (max_rows * max_bytes))
-          × («data» + m.needed.«data» ≤ 33 * (max_rows * max_bytes))
-      sums-small few =
+      pub sums-small : passes (first_of (batch_lines b)) ≡ true
+          → (validity + n.validity ≤ 33 * (max_rows * max_bytes)) × (offsets + n.offsets ≤ 33 * (max_rows * max_bytes))
+          × («data» + n.«data» ≤ 33 * (max_rows * max_bytes))
+      sums-small p =
           let bound : ℕ = max_rows * max_bytes in
           let each : (k : ℕ) → k < suc i → ((need k).validity ≤ bound) × ((need k).offsets ≤ bound) × ((need k).«data» ≤ bound) =
           λ k l. needed-small (b.column k) x (column-ready b x k (all-passed k l)) in
           let last = each i (omega arith) in
-          let n : i ≤ 32 = omega arith in
-          let e = t.1 f in (
-            omega (arith, c.of-validity, small-sum i (λ k. (need k).validity) bound (λ k l. (each k (omega arith)).0) n, last.0, ap (λ (n : Lengths). n.validity) e),
-            omega (arith, c.of-offsets, small-sum i (λ k. (need k).offsets) bound (λ k l. (each k (omega arith)).1) n, last.1, ap (λ (n : Lengths). n.offsets) e),
-            omega (arith, c.of-data, small-sum i (λ k. (need k).«data») bound (λ k l. (each k (omega arith)).2) n, last.2, ap (λ (n : Lengths). n.«data») e),
+          let l : i ≤ 32 = omega (arith, few-columns b p) in (
+            omega (arith, c.of-validity, small-sum i (λ k. (need k).validity) bound (λ k l. (each k (omega arith)).0) l, last.0, ap (λ (n : Lengths). n.validity) told),
+            omega (arith, c.of-offsets, small-sum i (λ k. (need k).offsets) bound (λ k l. (each k (omega arith)).1) l, last.1, ap (λ (n : Lengths). n.offsets) told),
+            omega (arith, c.of-data, small-sum i (λ k. (need k).«data») bound (λ k l. (each k (omega arith)).2) l, last.2, ap (λ (n : Lengths). n.«data») told),
           )
 
   -- ---- the end: every column passes
 
   pub columns-told : {i validity offsets «data» : ℕ} → Counted b x i validity offsets «data» → i ≡ b.count
-      → AllToldOf b x (record { checked = Fit; needed = record { «data» = «data»; offsets = offsets; validity = validity } })
+      → AllToldOf b x (Ok (record { «data» = «data»; offsets = offsets; validity = validity }))
   columns-told c e =
       let through : ℕ → List Line = λ k. through_lines (b.column k) x in
       let p : passes (first_of (lines_of b.count through)) ≡ true = lines-pass through (λ k. through-refusing (b.column k) x) b.count (rw e at c.passed) in (
         sym (none-met-accepts (lines_of b.count through) (none-met-passes (lines_of b.count through) (columns-refusing b x) p)),
-        λ f. rw (rw e at c.of-validity, rw e at c.of-offsets, rw e at c.of-data),
+        rw (rw e at c.of-validity, rw e at c.of-offsets, rw e at c.of-data),
       )
 
 -- ---- a batch that lies in a body
-
-module _ (n : ℕ) (s body : List ℕ) (e : passes (first_of (batch_lines (batch_in n s body))) ≡ true) where
-  -- the record of each column is there
-  pub record-there : (i : ℕ) → i < n → (i + 1) * record_bytes ≤ length s
-  record-there i h = omega (arith, ltb-false (length s) (n * record_bytes) (all-described (batch_in n s body) e))
 
 -- the rows that a record states are the column's
 pub stated-rows : (s body : List ℕ) (i : ℕ) {d : Description} → d ≡ described_at s i → (column_in body (described_at s i)).table.rows ≡ d.table.rows

@@ -1,9 +1,7 @@
 -- The columns of a batch written one after the other: what holds after i of them, the step, and the end. Assumes nothing.
-use mathlib.Core.Path.{◌≡◌, refl, sym, ap, ◌∙◌, subst}
-use mathlib.Core.Bool.{Bool, true}
-use mathlib.Core.List.{List, ◌++◌}
-use Prim.Native.Nat.{ℕ, suc, ◌+◌, ◌-◌, ◌*◌, ◌^◌, ◌≤◌, ◌<◌}
-use native.Mathlib.Nat.{mul-le-mul_right}
+use mathlib.Core.Path.{subst, ◌≡◌, sym, ap, ◌∙◌}
+use mathlib.Core.List.{List}
+use Prim.Native.Nat.{ℕ, suc, ◌+◌, ◌-◌, ◌*◌, ◌≤◌, ◌<◌}
 use native.Mathlib.Numerals.{add-one}
 use native.Mathlib.Omega.{arith}
 use lib.ListN.{length, drop, length-drop}
@@ -13,20 +11,19 @@ use Rattle.bits.specs.Sequences.{concat, sum}
 use Rattle.bits.specs.Bytes.{overwrite}
 use Rattle.bits.specs.Routines.{overwrite_at}
 use Rattle.tables.specs.declared.table.Lengths.{Lengths}
-use Rattle.tables.specs.Columns.{IndexColumn}
-use Rattle.tables.specs.Answers.{passes}
+use Rattle.tables.specs.Columns.{Column, IndexColumn}
 use Rattle.tables.specs.Refusals.{max_rows, max_bytes}
 use Rattle.tables.specs.Rows.{Rows}
-use Rattle.gathers.specs.Stored.{Output, validity_bytes, written_offsets, data_bytes, validity_length, offset_length, data_length, needed_lengths, null_count, store, store_joined}
+use Rattle.gathers.specs.Taken.{taken}
+use Rattle.gathers.specs.Stored.{Output, validity_bytes, written_offsets, data_bytes, needed_lengths, null_count, store, store_joined}
 use Rattle.gathers.specs.Ready.{Ready, NoOverflow}
 use Rattle.batches.specs.Batch.{Batch, taken_from}
 use Rattle.batches.specs.Passed.{Passed}
 use Rattle.described.specs.declared.column.Taken.{Taken}
 use Rattle.described.specs.Taken.{taken_of, HasRoomFor}
-use Rattle.arrays.specs.declared.write.Written.{Written}
 use Rattle.arrays.specs.Told.{written_of}
 use Rattle.arrays.proofs.Counted.{small-sum}
-use Rattle.bits.proofs.Sequences.{sum-cong, sum_mono, sum-le, sum-const, length-concat}
+use Rattle.bits.proofs.Sequences.{sum-cong, sum_mono, length-concat}
 use Rattle.bits.proofs.Bytes.{length-overwrite, overwrite-tail, overwrite_at-lent}
 use Rattle.gathers.proofs.Stages.{stored-parts, joined_by}
 use Rattle.gathers.proofs.Written.{data-held}
@@ -43,7 +40,7 @@ module _ (n : ℕ) (f : ℕ → List ℕ) (need : ℕ → ℕ) (held : (k : ℕ)
   fits : at ≤ length s
   fits = omega (arith, sum_mono {i = i} n need inside)
 
-  pub kept-length : length t ≡ length s
+  kept-length : length t ≡ length s
   kept-length = ap length d ∙ length-overwrite (concat i f) s (omega (arith, laid, fits))
 
   -- the tail is lent on
@@ -94,18 +91,6 @@ pub record Laid (b : Batch) (x : IndexColumn) (o : Output) (i validity offsets �
   pub held-offsets : out-offsets ≡ overwrite (concat i (offsetses b x)) o.offsets
   pub held-data : out-data ≡ overwrite (concat i (datas b x)) o.«data»
 
-pub laid-start : (b : Batch) (x : IndexColumn) (o : Output) → Laid b x o 0 0 0 0 0 o.validity o.offsets o.«data»
-laid-start b x o = record {
-  inside = omega arith;
-  of-validity = refl;
-  of-offsets = refl;
-  of-data = refl;
-  of-nulls = refl;
-  held-validity = refl;
-  held-offsets = refl;
-  held-data = refl;
-}
-
 module _ (b : Batch) (x : IndexColumn) (o : Output) (p : Passed b x o) {i validity offsets «data» nulls : ℕ} {out-validity out-offsets out-data : List ℕ}
     (l : Laid b x o i validity offsets «data» nulls out-validity out-offsets out-data) where
   data-whole : (k : ℕ) → k < b.count → length (datas b x k) ≡ (need b x k).«data»
@@ -124,17 +109,6 @@ module _ (b : Batch) (x : IndexColumn) (o : Output) (p : Passed b x o) {i validi
   pub there-data : «data» ≤ length out-data
   there-data = tail-there b.count (datas b x) (λ k. (need b x k).«data») data-whole o.«data» (joined-room b x o p).2 l.inside l.of-data l.held-data
 
-  pub kept-validity : length out-validity ≡ length o.validity
-  kept-validity =
-      kept-length b.count (validities b x) (λ k. (need b x k).validity) (λ k h. validity-held b x k) o.validity (joined-room b x o p).0 l.inside l.of-validity l.held-validity
-
-  pub kept-offsets : length out-offsets ≡ length o.offsets
-  kept-offsets =
-      kept-length b.count (offsetses b x) (λ k. (need b x k).offsets) (λ k h. offsets-held b x k) o.offsets (joined-room b x o p).1 l.inside l.of-offsets l.held-offsets
-
-  pub kept-data : length out-data ≡ length o.«data»
-  kept-data = kept-length b.count (datas b x) (λ k. (need b x k).«data») data-whole o.«data» (joined-room b x o p).2 l.inside l.of-data l.held-data
-
   abbrev pub tails : Output
   tails = record {
     validity = mid_of validity (length out-validity - validity) out-validity;
@@ -144,15 +118,15 @@ module _ (b : Batch) (x : IndexColumn) (o : Output) (p : Passed b x o) {i validi
 
   -- ---- the next column
 
-  module _ (h : i < b.count) where
-    pub next-ready : Ready (b.column i) x
-    next-ready = column-ready b x i (p.columns i h)
+  module _ (h : i < b.count) {k : Column} (ke : k ≡ b.column i) where
+    pub next-ready : Ready k x
+    next-ready = subst (λ (k : Column). Ready k x) (sym ke) (column-ready b x i (p.columns i h))
 
-    pub next_small : NoOverflow (b.column i) x
-    next_small = column-small b x i (p.columns i h)
+    pub next_small : NoOverflow k x
+    next_small = subst (λ (k : Column). NoOverflow k x) (sym ke) (column-small b x i (p.columns i h))
 
-    pub next-room : HasRoomFor (v b x i) tails
-    next-room = record {
+    next_fit : HasRoomFor (v b x i) tails
+    next_fit = record {
       validity =
           tail-room b.count (validities b x) (λ k. (need b x k).validity) (λ k h. validity-held b x k) o.validity (joined-room b x o p).0 l.inside l.of-validity
           l.held-validity h;
@@ -162,11 +136,15 @@ module _ (b : Batch) (x : IndexColumn) (o : Output) (p : Passed b x o) {i validi
       «data» = tail-room b.count (datas b x) (λ k. (need b x k).«data») data-whole o.«data» (joined-room b x o p).2 l.inside l.of-data l.held-data h;
     }
 
+    pub next-room : HasRoomFor (taken k x) tails
+    next-room = subst (λ (k : Column). HasRoomFor (taken k x) tails) (sym ke) next_fit
+
     -- where the column after it goes is far below what a number of 64 bits holds
-    pub sums-small : (t : Taken) → t ≡ taken_of (v b x i)
+    pub sums-small : (t : Taken) → t ≡ taken_of (taken k x)
         → (validity + t.needed.validity ≤ 32 * (max_rows * max_bytes)) × (offsets + t.needed.offsets ≤ 32 * (max_rows * max_bytes))
         × («data» + t.needed.«data» ≤ 32 * (max_rows * max_bytes)) × (nulls + t.nulls ≤ 32 * max_rows)
-    sums-small t e =
+    sums-small t g =
+        let e : t ≡ taken_of (v b x i) = g ∙ ap (λ (k : Column). taken_of (taken k x)) ke in
         let bound : ℕ = max_rows * max_bytes in
         let few : suc i ≤ 32 = omega (arith, few-columns b p.batch) in
         let ready : (k : ℕ) → k < suc i → Ready (b.column k) x = λ k g. column-ready b x k (p.columns k (omega arith)) in
@@ -177,13 +155,14 @@ module _ (b : Batch) (x : IndexColumn) (o : Output) (p : Passed b x o) {i validi
           omega (arith, l.of-nulls, ap (λ (t : Taken). t.nulls) e, small-sum (suc i) (λ k. null_count (v b x k)) max_rows (λ k g. nulls-small (b.column k) x (ready k g)) few),
         )
 
-    pub laid_more : (t : Taken) → t ≡ taken_of (v b x i) → {a c d : List ℕ} → record { validity = a; offsets = c; «data» = d } ≡ store (v b x i) tails
+    pub laid_more : (t : Taken) → t ≡ taken_of (taken k x) → {a c d : List ℕ} → record { validity = a; offsets = c; «data» = d } ≡ store (taken k x) tails
         → Laid b x o (i + 1) (validity + t.needed.validity) (offsets + t.needed.offsets) («data» + t.needed.«data») (nulls + t.nulls)
         (put_mid validity (length out-validity - validity) out-validity a)
         (put_mid offsets (length out-offsets - offsets) out-offsets c)
         (put_mid «data» (length out-data - «data») out-data d)
-    laid_more t e g =
-        let s = g ∙ stored-parts (v b x i) tails in
+    laid_more t te g =
+        let e : t ≡ taken_of (v b x i) = te ∙ ap (λ (k : Column). taken_of (taken k x)) ke in
+        let s = g ∙ ap (λ (k : Column). store (taken k x) tails) ke ∙ stored-parts (v b x i) tails in
         record {
           inside = omega arith;
           of-validity = rw (add-one, l.of-validity, ap (λ (t : Taken). t.needed.validity) e);

@@ -1,5 +1,5 @@
-// The tests of a batch before any of its columns is looked at: how many columns there are, whether all are described, and whether their row counts are
-// equal. Any number and any bytes may be handed in.
+// Several columns as they are lent, and the tests of them before any is looked at: how many there are, whether all are described, and whether their row counts
+// are equal. Any number and any bytes may be handed in.
 ghost use Rattle.std.specs.Prelude.{◌≡◌, List, ℕ, ◌*◌, ◌≤◌, ◌<◌, length};
 ghost use Rattle.tables.specs.Answers.{first_of};
 ghost use Rattle.tables.specs.Bodies.{record_bytes};
@@ -8,7 +8,15 @@ ghost use Rattle.batches.specs.Batch.{batch_in, batch_lines};
 ghost use Rattle.arrays.specs.Told.{records_differ};
 
 use descriptions::record::rows_at;
-use tables::refusal::{Checked, Refusal};
+use tables::refusal::Refusal;
+
+// So many columns, a record of each, and the body that their buffers lie in.
+#[derive(Clone, Copy)]
+pub struct Batch<'a> {
+    pub columns: u64,
+    pub descriptions: &'a [u8],
+    pub body: &'a [u8],
+}
 
 const MAX_COLUMNS: u64 = 32;
 
@@ -21,29 +29,30 @@ fn rows_differ(columns: usize, descriptions: &[u8]) -> bool
 {
     let rows = rows_at(descriptions, 0);
     let mut differ = false;
-    let mut i: usize = 0;
-    while i < columns {
+    for i in 0..columns {
         differ = differ | (rows_at(descriptions, i) != rows);
-        i += 1;
     }
     differ
 }
 
 // What lies in the body is not looked at.
-pub fn check_batch(columns: u64, descriptions: &[u8]) -> Checked
-    ensures { (body : List ℕ) → checked_numbers result ≡ first_of (batch_lines (batch_in columns descriptions.now body)) }
+pub fn check_batch(batch: &Batch<'_>) -> Result<(), Refusal>
+    ensures { (body : List ℕ) → checked_numbers result ≡ first_of (batch_lines (batch_in batch.now.columns batch.now.descriptions.now body)) }
 {
+    let columns = batch.columns;
+    let descriptions = batch.descriptions;
+    // two tests, for of an or the arithmetic after it would know neither half
     if columns == 0 {
-        return Checked::Unfit(Refusal::Limit);
+        return Err(Refusal::Limit);
     }
     if columns > MAX_COLUMNS {
-        return Checked::Unfit(Refusal::Limit);
+        return Err(Refusal::Limit);
     }
     if (descriptions.len() as u64) < columns * RECORD_BYTES {
-        return Checked::Unfit(Refusal::Short);
+        return Err(Refusal::Short);
     }
     if rows_differ(columns as usize, descriptions) {
-        return Checked::Unfit(Refusal::Rows);
+        return Err(Refusal::Rows);
     }
-    Checked::Fit
+    Ok(())
 }

@@ -9,6 +9,7 @@ ghost use Rattle.answers.specs.Exported.{left, exported};
 use answers::answer::write_answer;
 use entries::answer::answered_numbers;
 use entries::take::take;
+use tables::column::{Column, IndexColumn, Output};
 use tables::table::{Indices, Table};
 
 pub fn hoglidra_take(
@@ -50,22 +51,29 @@ pub fn hoglidra_take(
         data_bit,
         validity_bit,
     };
-    let indices = Indices {
-        width: index_width,
-        count,
-        validity_bit: index_validity_bit,
-    };
-    let answered = take(
+    let column = Column {
         table,
         data,
         offsets,
         validity,
-        indices,
-        index_data,
-        index_validity,
-        out_validity,
-        out_offsets,
-        out_data,
+    };
+    let indices = IndexColumn {
+        indices: Indices {
+            width: index_width,
+            count,
+            validity_bit: index_validity_bit,
+        },
+        data: index_data,
+        validity: index_validity,
+    };
+    let answered = take(
+        &column,
+        &indices,
+        Output {
+            validity: out_validity,
+            offsets: out_offsets,
+            data: out_data,
+        },
     );
     let numbers = answered_numbers(answered);
     write_answer(numbers, answer);

@@ -6,8 +6,10 @@ ghost use Rattle.arrays.specs.Entry.{GathersArrays};
 ghost use Rattle.answers.specs.Exported.{left, exported};
 
 use answers::answer::write_answer;
+use arrays::batch::Batch;
 use arrays::take::take_arrays;
 use entries::answer::answered_numbers;
+use tables::column::{IndexColumn, Output};
 use tables::table::Indices;
 
 pub fn hoglidra_take_arrays(
@@ -33,21 +35,28 @@ pub fn hoglidra_take_arrays(
     if answer.len() < 32 {
         return 7;
     }
-    let indices = Indices {
-        width: index_width,
-        count,
-        validity_bit: index_validity_bit,
-    };
-    let answered = take_arrays(
+    let batch = Batch {
         columns,
         descriptions,
         body,
-        indices,
-        index_data,
-        index_validity,
-        out_validity,
-        out_offsets,
-        out_data,
+    };
+    let indices = IndexColumn {
+        indices: Indices {
+            width: index_width,
+            count,
+            validity_bit: index_validity_bit,
+        },
+        data: index_data,
+        validity: index_validity,
+    };
+    let answered = take_arrays(
+        &batch,
+        &indices,
+        Output {
+            validity: out_validity,
+            offsets: out_offsets,
+            data: out_data,
+        },
     );
     let numbers = answered_numbers(answered);
     write_answer(numbers, answer);

@@ -1,11 +1,8 @@
 -- After i records, whether one of them differs from the first.
-use Rattle.std.proofs.Common.{◌≡◌, ℕ, ◌-◌, ◌≤◌}
+use Rattle.std.proofs.Common.{◌≡◌}
 use Rattle.bits.specs.Sequences.{any}
 use Rattle.arrays.proofs.Records.{differs}
 use Rattle.arrays.proofs.batch.rows_differ.Given as goal
 
 abbrev pub invariant-loop-i : goal.invariant-loop-i
-invariant-loop-i l = record { inside : l.i ≤ l.columns; found : l.differ ≡ any l.i (differs l.descriptions l.rows) }
-
-abbrev pub decreases-loop-i : goal.decreases-loop-i
-decreases-loop-i l = l.columns - l.i
+invariant-loop-i l = l.differ ≡ any l.i (differs l.descriptions l.rows)
