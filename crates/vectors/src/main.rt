@@ -7,95 +7,63 @@ mod batch; // batch.rt: the columns of a case that has several
 mod case; // case.rt: a case, run and compared
 mod column; // column.rt: the column of a case that has one
 mod published; // published.rt: a published answer, with zeros below its nulls
-mod report; // report.rt: what is written
-mod text; // text.rt: fields, numbers and bytes of a text
+mod report; // report.rt: differences, and what is written of them
+mod text; // text.rt: the fields of a line
 
-use case::run;
+use case::Case;
 use published::run_published;
-use report::{Tally, count_zeroed, not_read, print_tally, tell};
+use report::{Failure, Tally};
+use std::alloc::Global;
 use std::rt::Files;
 use std::{fs, io};
-use text::{field, find};
 
-// Runs a published answer, and counts it where zeros were put below its nulls.
-fn step_published(
-    rt: &impl Print,
-    name: &[u8],
-    text: &[u8],
-    number: u64,
-    tally: Tally,
-) -> io::Result<Tally> {
-    let outcome = run_published(text);
-    let verdict = outcome.verdict;
-    let told = tell(rt, name, number, verdict, tally)?;
-    if outcome.zeroed {
-        return Ok(count_zeroed(text::number(field(text, 0)), told));
-    }
-    Ok(told)
+fn run(alloc: Global, line: &[u8], _: &mut Tally<'_>) -> Result<(), Failure> {
+    Case::read(alloc, line)?.run(alloc)
 }
 
-// Takes in a line: an empty one, a comment, or a case.
-fn step(
-    rt: &impl Print,
-    name: &[u8],
+// Takes in each line: an empty one, a comment, or a case, which `run` runs.
+fn run_text<R: AllocGlobal + Print, F>(
+    rt: &R,
+    mut tally: Tally<'_>,
     text: &[u8],
-    number: u64,
-    published: bool,
-    tally: Tally,
-) -> io::Result<Tally> {
-    if text.len() == 0 {
-        return Ok(tally);
-    }
-    if text[0] == b'#' {
-        return Ok(tally);
-    }
-    if published {
-        return step_published(rt, name, text, number, tally);
-    }
-    let verdict = run(text);
-    tell(rt, name, number, verdict, tally)
-}
-
-fn run_text(rt: &impl Print, name: &[u8], text: &[u8], published: bool) -> io::Result<()> {
-    let mut tally = Tally {
-        cases: 0,
-        differ: 0,
-        zeroed: [0u64; 7],
-    };
-    let mut number = 0;
-    let mut from = 0;
-    while from < text.len() {
-        let to = find(text, from, b'\n');
-        number = std::num::wrapping_add_u64(number, 1);
-        tally = step(rt, name, &text[from..to], number, published, tally)?;
-        if text.len() <= to {
-            break;
+    run: F,
+) -> io::Result<()>
+where
+    F: Fn(Global, &[u8], &mut Tally<'_>) -> Result<(), Failure>,
+    requires { F.IsAlwaysCallable run }
+{
+    for (i, line) in text.split(|byte| *byte == b'\n').enumerate() {
+        if line.is_empty() || line.starts_with(b"#") {
+            continue;
         }
-        from = to + 1;
+        let came = run(rt.alloc(), line, &mut tally);
+        tally.count(rt, i + 1, came)?;
     }
-    print_tally(rt, name, published, tally)
+    tally.print(rt)?;
+    tally.print_zeroed(rt)
 }
 
 // No file is as long as this.
 const MOST_TEXT: usize = 262144;
 
-fn run_file<R: Files + Alloc + Print>(rt: &R, name: &str, published: bool) -> io::Result<()> {
-    let Ok(text) = fs::read(rt, name) else {
-        return not_read(rt, name.as_bytes());
-    };
-    let end = text.len();
-    if (end == 0) | (MOST_TEXT <= end) {
-        return not_read(rt, name.as_bytes());
+fn run_file<R: Files + AllocGlobal + Print, F>(rt: &R, tally: Tally<'_>, run: F) -> io::Result<()>
+where
+    F: Fn(Global, &[u8], &mut Tally<'_>) -> Result<(), Failure>,
+    requires { F.IsAlwaysCallable run }
+{
+    let name = tally.name;
+    match fs::read(rt, name) {
+        Ok(text) if (1..MOST_TEXT).contains(&text.len()) => run_text(rt, tally, &text, run),
+        _ => println!(rt; "{name}: missing, empty or too long"),
     }
-    run_text(rt, name.as_bytes(), text.as_slice(), published)
 }
 
 fn main(rt: HostRuntime) -> io::Result<()> {
-    run_file(&rt, "trials.txt", false)?;
-    run_file(&rt, "refusals.txt", false)?;
-    run_file(&rt, "columnar-format.txt", false)?;
-    run_file(&rt, "take-docs.txt", false)?;
-    run_file(&rt, "take-kernels.txt", true)?;
-    run_file(&rt, "null-rows.txt", false)?;
-    run_file(&rt, "arrays.txt", false)
+    run_file(&rt, Tally::new("trials.txt"), run)?;
+    run_file(&rt, Tally::new("refusals.txt"), run)?;
+    run_file(&rt, Tally::new("columnar-format.txt"), run)?;
+    run_file(&rt, Tally::new("take-docs.txt"), run)?;
+    run_file(&rt, Tally::published("take-kernels.txt"), run_published)?;
+    run_file(&rt, Tally::new("null-rows.txt"), run)?;
+    run_file(&rt, Tally::new("arrays.txt"), run)
 }

@@ -1,152 +1,193 @@
-// What the program writes: the first difference of a file, and a line for each file.
-use crate::case::Verdict;
-use std::io;
+// What is said of a case, the first that is not as it should be, and of a file: how many of its cases differ.
+use std::alloc::{AllocError, AllocFailed};
+use std::{fmt, io};
 
-// How the cases of a file went so far. `zeroed` counts, by kind, the published answers that have other bytes than zeros below a null.
+// A number of the answer.
 #[derive(Clone, Copy)]
-pub struct Tally {
-    pub cases: u64,
-    pub differ: u64,
-    pub zeroed: [u64; 7],
+pub enum Number {
+    Number,
+    Place,
+    Total,
+    Nulls,
 }
 
-fn write(rt: &impl Print, text: &[u8]) -> io::Result<()> {
-    rt.write_all(text)
-}
-
-fn write_number(rt: &impl Print, number: u64) -> io::Result<()> {
-    rt.print(number)
-}
-
-fn write_name_of_number(rt: &impl Print, which: u64) -> io::Result<()> {
-    match which {
-        0 => write(rt, b"number"),
-        1 => write(rt, b"place"),
-        2 => write(rt, b"total"),
-        _ => write(rt, b"nulls"),
-    }
-}
-
-fn write_name_of_output(rt: &impl Print, which: u64) -> io::Result<()> {
-    match which {
-        1 => write(rt, b"validity"),
-        2 => write(rt, b"offsets"),
-        3 => write(rt, b"data"),
-        _ => write(rt, b"answer's tail"),
-    }
-}
-
-fn write_verdict(rt: &impl Print, verdict: Verdict) -> io::Result<()> {
-    match verdict {
-        Verdict::Alike => write(rt, b"alike"),
-        Verdict::Unreadable => write(rt, b"not a case"),
-        Verdict::NullBytes => write(rt, b"a null row of the published answer has bytes"),
-        Verdict::Number { which, got, want } => {
-            write_name_of_number(rt, which)?;
-            write(rt, b" ")?;
-            write_number(rt, got)?;
-            write(rt, b", and should be ")?;
-            write_number(rt, want)
-        }
-        Verdict::Byte {
-            which,
-            at,
-            got,
-            want,
-        } => {
-            write_name_of_output(rt, which)?;
-            write(rt, b" has at ")?;
-            write_number(rt, at)?;
-            write(rt, b" the byte ")?;
-            write_number(rt, got as u64)?;
-            write(rt, b", and should have ")?;
-            write_number(rt, want as u64)
+impl fmt::Display for Number {
+    fn fmt<W: fmt::Write>(&self, f: &mut fmt::Formatter<W>) -> fmt::Result {
+        match self {
+            Number::Number => write!(f, "number"),
+            Number::Place => write!(f, "place"),
+            Number::Total => write!(f, "total"),
+            Number::Nulls => write!(f, "nulls"),
         }
     }
 }
 
-// Counts a case that was run, and writes what differs if it is the first that does.
-pub fn tell(
-    rt: &impl Print,
-    name: &[u8],
-    line: u64,
-    verdict: Verdict,
-    tally: Tally,
-) -> io::Result<Tally> {
-    let cases = std::num::wrapping_add_u64(tally.cases, 1);
-    let zeroed = tally.zeroed;
-    if let Verdict::Alike = verdict {
-        return Ok(Tally {
+// A buffer that is lent to be written; the tail is what follows the answer.
+#[derive(Clone, Copy)]
+pub enum Output {
+    Validity,
+    Offsets,
+    Data,
+    Tail,
+}
+
+impl fmt::Display for Output {
+    fn fmt<W: fmt::Write>(&self, f: &mut fmt::Formatter<W>) -> fmt::Result {
+        match self {
+            Output::Validity => write!(f, "validity"),
+            Output::Offsets => write!(f, "offsets"),
+            Output::Data => write!(f, "data"),
+            Output::Tail => write!(f, "answer's tail"),
+        }
+    }
+}
+
+// The first that is not as it should be. Null bytes: a published answer has bytes in a null row of kind 3 or 4, and was not run.
+#[derive(Clone, Copy)]
+pub enum Difference {
+    Unreadable,
+    NullBytes,
+    Number {
+        which: Number,
+        got: u64,
+        want: u64,
+    },
+    Byte {
+        which: Output,
+        at: usize,
+        got: u8,
+        want: u8,
+    },
+}
+
+impl fmt::Display for Difference {
+    fn fmt<W: fmt::Write>(&self, f: &mut fmt::Formatter<W>) -> fmt::Result {
+        match self {
+            Difference::Unreadable => write!(f, "not a case"),
+            Difference::NullBytes => write!(f, "a null row of the published answer has bytes"),
+            Difference::Number { which, got, want } => {
+                write!(f, "{which} {got}, and should be {want}")
+            }
+            Difference::Byte {
+                which,
+                at,
+                got,
+                want,
+            } => write!(
+                f,
+                "{which} has at {at} the byte {got}, and should have {want}"
+            ),
+        }
+    }
+}
+
+// Why a case did not come out alike.
+#[derive(Drop)]
+pub enum Failure {
+    Differs(Difference),
+    OutOfMemory(AllocError),
+}
+
+impl From<Difference> for Failure {
+    fn from(difference: Difference) -> Failure {
+        Failure::Differs(difference)
+    }
+}
+
+impl From<AllocError> for Failure {
+    fn from(e: AllocError) -> Failure {
+        Failure::OutOfMemory(e)
+    }
+}
+
+impl<T: Drop> From<AllocFailed<T>> for Failure {
+    fn from(e: AllocFailed<T>) -> Failure {
+        Failure::OutOfMemory(e.into())
+    }
+}
+
+// How the cases of a file went so far. `zeroed` counts, by kind, the published answers that have other bytes than zeros below a null; None where none is
+// published.
+#[derive(Drop)]
+pub struct Tally<'a> {
+    pub name: &'a str,
+    cases: u64,
+    differ: u64,
+    zeroed: Option<[u64; 7]>,
+}
+
+impl<'a> Tally<'a> {
+    pub fn new(name: &'a str) -> Tally<'a> {
+        Tally {
+            name,
+            cases: 0,
+            differ: 0,
+            zeroed: None,
+        }
+    }
+
+    // Of published answers.
+    pub fn published(name: &'a str) -> Tally<'a> {
+        Tally {
+            zeroed: Some([0; 7]),
+            ..Tally::new(name)
+        }
+    }
+
+    // Counts a case that was run, and says what differs if it is the first that does.
+    pub fn count(
+        &mut self,
+        rt: &impl Print,
+        line: usize,
+        came: Result<(), Failure>,
+    ) -> io::Result<()> {
+        self.cases = self.cases.saturating_add(1);
+        match came {
+            Ok(()) => Ok(()),
+            Err(Failure::OutOfMemory(e)) => Err(e.into()),
+            Err(Failure::Differs(difference)) => {
+                if self.differ == 0 {
+                    let name = self.name;
+                    println!(rt; "{name}, line {line}: {difference}")?;
+                }
+                self.differ = self.differ.saturating_add(1);
+                Ok(())
+            }
+        }
+    }
+
+    // Counts a published answer of some kind that has other bytes than zeros below a null.
+    pub fn count_zeroed(&mut self, kind: u64) {
+        if let Some(zeroed) = &mut self.zeroed
+            && let Some(n) = zeroed.get_mut(kind as usize)
+        {
+            *n = n.saturating_add(1);
+        }
+    }
+
+    pub fn print(&self, rt: &impl Print) -> io::Result<()> {
+        let Tally {
+            name,
             cases,
-            differ: tally.differ,
-            zeroed,
-        });
+            differ,
+            ..
+        } = *self;
+        if differ == 0 {
+            println!(rt; "{name}: {cases} cases, all alike")
+        } else {
+            println!(rt; "{name}: {cases} cases, of which {differ} differ")
+        }
     }
-    if tally.differ == 0 {
-        write(rt, name)?;
-        write(rt, b", line ")?;
-        write_number(rt, line)?;
-        write(rt, b": ")?;
-        write_verdict(rt, verdict)?;
-        write(rt, b"\n")?;
-    }
-    Ok(Tally {
-        cases,
-        differ: std::num::wrapping_add_u64(tally.differ, 1),
-        zeroed,
-    })
-}
 
-// Counts a published answer of some kind that has other bytes than zeros below a null.
-pub fn count_zeroed(kind: u64, tally: Tally) -> Tally {
-    let mut zeroed = tally.zeroed;
-    if kind < 7 {
-        let i = kind as usize;
-        zeroed[i] = std::num::wrapping_add_u64(zeroed[i], 1);
+    // Says how many published answers of each kind were compared with zeros in place of what was published below nulls, if there are any.
+    pub fn print_zeroed(&self, rt: &impl Print) -> io::Result<()> {
+        let Some(zeroed) = self.zeroed else {
+            return Ok(());
+        };
+        let [_, fixed, bits, _, _, lists, binary] = zeroed;
+        let name = self.name;
+        println!(rt;
+            "{name}: zeros in place of bytes below nulls, in answers of kinds 1, 2, 5 and 6: {fixed}, {bits}, {lists}, {binary}"
+        )
     }
-    Tally {
-        cases: tally.cases,
-        differ: tally.differ,
-        zeroed,
-    }
-}
-
-// Says how many published answers of each kind were compared with zeros in place of what was published below nulls.
-fn print_zeroed(rt: &impl Print, name: &[u8], tally: Tally) -> io::Result<()> {
-    let zeroed = tally.zeroed;
-    write(rt, name)?;
-    write(
-        rt,
-        b": zeros in place of bytes below nulls, in answers of kinds 1, 2, 5 and 6: ",
-    )?;
-    write_number(rt, zeroed[1])?;
-    write(rt, b", ")?;
-    write_number(rt, zeroed[2])?;
-    write(rt, b", ")?;
-    write_number(rt, zeroed[5])?;
-    write(rt, b", ")?;
-    write_number(rt, zeroed[6])?;
-    write(rt, b"\n")
-}
-
-pub fn print_tally(rt: &impl Print, name: &[u8], published: bool, tally: Tally) -> io::Result<()> {
-    write(rt, name)?;
-    write(rt, b": ")?;
-    write_number(rt, tally.cases)?;
-    if tally.differ == 0 {
-        write(rt, b" cases, all alike\n")?;
-    } else {
-        write(rt, b" cases, of which ")?;
-        write_number(rt, tally.differ)?;
-        write(rt, b" differ\n")?;
-    }
-    if published {
-        print_zeroed(rt, name, tally)?;
-    }
-    Ok(())
-}
-
-pub fn not_read(rt: &impl Print, name: &[u8]) -> io::Result<()> {
-    write(rt, name)?;
-    write(rt, b": missing, empty or too long\n")
 }

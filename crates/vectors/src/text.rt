@@ -1,154 +1,75 @@
-// Fields, numbers and bytes of a text. Every function takes any text; what is not there is empty.
-ghost use Rattle.std.specs.Prelude.{◌≤◌, length};
+// The fields of a line, where one space stands between two: numbers in decimal, bytes in hexadecimal, and words. What is not there is no case.
+ghost use Rattle.std.specs.Prelude.{◌<◌, IfOk};
+
+use crate::report::{Difference, Failure};
+use std::alloc::Global;
+use std::str::Split;
 
 // The most bytes that a field gives.
-pub const ROOM: usize = 1024;
+const MOST: usize = 1024;
 
-// Where the first such byte stands at or after `from`, or the text's end.
-pub fn find(text: &[u8], from: usize, byte: u8) -> usize
-    requires { from ≤ length text.now }
-    ensures { (from ≤ result) × (result ≤ length text.now) }
-{
-    let mut at = from;
-    while at < text.len() {
-        if text[at] == byte {
-            break;
+// The fields that are still to be read.
+#[derive(Drop)]
+pub struct Fields<'a>(Split<'a, char>);
+
+impl<'a> Fields<'a> {
+    pub fn new(line: &'a str) -> Fields<'a> {
+        Fields(line.split(' '))
+    }
+
+    fn field(&mut self) -> Result<&'a str, Difference> {
+        self.0.next().ok_or(Difference::Unreadable)
+    }
+
+    // A number, or the largest one where the digits stand for one that is larger.
+    pub fn number(&mut self) -> Result<u64, Difference> {
+        let field = self.field()?;
+        if field.is_empty() || !field.bytes().all(|byte| byte.is_ascii_digit()) {
+            return Err(Difference::Unreadable);
         }
-        at += 1;
+        Ok(field.parse::<u64>().unwrap_or(u64::MAX))
     }
-    at
-}
 
-// A line from its field n on, where one space stands between two fields; empty where there are fewer.
-pub fn after(line: &[u8], n: usize) -> &[u8] {
-    let mut from = 0;
-    let mut left = n;
-    while 0 < left {
-        let end = find(line, from, b' ');
-        if line.len() <= end {
-            return &line[0..0];
+    // Bytes, two digits each; a hyphen stands for none.
+    pub fn bytes(&mut self, alloc: Global) -> Result<Vec<u8>, Failure> {
+        let mut bytes = Vec::new(alloc);
+        let field = self.field()?;
+        if field == "-" {
+            return Ok(bytes);
         }
-        from = end + 1;
-        left -= 1;
-    }
-    let to = line.len();
-    &line[from..to]
-}
-
-// Field n of a line; empty where there are fewer.
-pub fn field(line: &[u8], n: usize) -> &[u8] {
-    let rest = after(line, n);
-    let to = find(rest, 0, b' ');
-    &rest[0..to]
-}
-
-// Whether a field is such a text.
-pub fn is_text(field: &[u8], text: &[u8]) -> bool {
-    if field.len() != text.len() {
-        return false;
-    }
-    let mut i = 0;
-    while i < field.len() {
-        if field[i] != text[i] {
-            return false;
+        let (pairs, rest) = field.as_bytes().as_chunks::<2>();
+        if pairs.is_empty() || !rest.is_empty() || MOST < pairs.len() {
+            return Err(Difference::Unreadable.into());
         }
-        i += 1;
+        for [high, low] in pairs {
+            bytes.push(digit(*high)? * 16 + digit(*low)?)?;
+        }
+        Ok(bytes)
     }
-    true
+
+    pub fn word(&mut self, word: &str) -> Result<(), Difference> {
+        if self.field()? == word {
+            Ok(())
+        } else {
+            Err(Difference::Unreadable)
+        }
+    }
+
+    pub fn end(&mut self) -> Result<(), Difference> {
+        match self.0.next() {
+            None => Ok(()),
+            Some(_) => Err(Difference::Unreadable),
+        }
+    }
 }
 
-// A digit's value, to 15 for f, or 16 where the byte is no digit.
-pub fn digit(byte: u8) -> u64
-    ensures { result ≤ 16 }
+// A hexadecimal digit's value. The library's `to_digit` takes A to F too, which the files do not have.
+fn digit(byte: u8) -> Result<u8, Difference>
+    ensures { IfOk result (λ value. value < 16) }
 {
     match byte {
-        48..=57 => (byte - 48) as u64,
-        97..=102 => (byte - 87) as u64,
-        _ => 16,
+        b'0'..=b'9' => Ok(byte - b'0'),
+        b'a'..=b'f' => Ok(byte - b'a' + 10),
+        _ => Err(Difference::Unreadable),
     }
-}
-
-// A field of digits as a number, or the largest number where it is larger.
-pub fn number(field: &[u8]) -> u64 {
-    let mut value = 0;
-    let mut i = 0;
-    while i < field.len() {
-        let next = digit(field[i]);
-        if u64::MAX / 10 < value {
-            return u64::MAX;
-        }
-        if u64::MAX - value * 10 < next {
-            return u64::MAX;
-        }
-        value = value * 10 + next;
-        i += 1;
-    }
-    value
-}
-
-// Whether a field is digits, none of them above `most`, and at least one.
-pub fn is_digits(field: &[u8], most: u64) -> bool {
-    let mut i = 0;
-    while i < field.len() {
-        if most < digit(field[i]) {
-            return false;
-        }
-        i += 1;
-    }
-    0 < field.len()
-}
-
-// Whether a field gives bytes in hexadecimal, two digits each, and no more of them than there may be; a hyphen gives none.
-pub fn is_bytes(field: &[u8]) -> bool {
-    if ROOM < byte_count(field) {
-        return false;
-    }
-    if field.len() == 1 {
-        return field[0] == b'-';
-    }
-    if field.len() % 2 == 1 {
-        return false;
-    }
-    is_digits(field, 15)
-}
-
-// How many bytes a field gives.
-pub fn byte_count(field: &[u8]) -> usize {
-    field.len() / 2
-}
-
-// Byte i of those that a field gives, or `other` where it gives fewer; what is no digit counts as 0.
-pub fn byte_at(field: &[u8], i: usize, other: u8) -> u8 {
-    if field.len() / 2 <= i {
-        return other;
-    }
-    let high = digit(field[2 * i]);
-    let low = digit(field[2 * i + 1]);
-    ((high % 16) * 16 + low % 16) as u8
-}
-
-// Puts the bytes that a field gives into `out` from `from` on, as far as there is room, and answers where they end.
-pub fn decode(field: &[u8], out: &mut [u8], from: usize) -> usize {
-    let n = byte_count(field);
-    let mut at = from;
-    let mut i = 0;
-    while i < n {
-        if out.len() <= at {
-            break;
-        }
-        out[at] = byte_at(field, i, 0);
-        at += 1;
-        i += 1;
-    }
-    at
-}
-
-// The text from one place to another; empty where there is no such part.
-pub fn part(text: &[u8], from: usize, to: usize) -> &[u8] {
-    if from <= to {
-        if to <= text.len() {
-            return &text[from..to];
-        }
-    }
-    &text[0..0]
 }

@@ -5,4 +5,4 @@ use Rattle.tables.proofs.Stages.{form-passed}
 use Rattle.trials.proofs.scanned.Goals as goal
 
 pub check_bounds-requires : goal.check_bounds-requires
-check_bounds-requires c = (form-passed _ _ (ap passes (sym c.in-Fit.ensures))).1
+check_bounds-requires c = (form-passed _ _ (ap passes (sym c.in-Ok.ensures))).1

@@ -1,9 +1,0 @@
--- Four numbers of the answer are compared.
-use Rattle.std.proofs.Common.{◌-◌, ◌≤◌}
-use Rattle.vectors.proofs.case.compare_answer.Given as goal
-
-abbrev pub invariant-loop-i : goal.invariant-loop-i
-invariant-loop-i l = l.i ≤ 4
-
-abbrev pub decreases-loop-i : goal.decreases-loop-i
-decreases-loop-i l = 4 - l.i

@@ -1,9 +1,0 @@
--- The place stays in the line, and a field is left to pass at each turn.
-use Rattle.std.proofs.Common.{◌≤◌, length}
-use Rattle.vectors.proofs.text.after.Given as goal
-
-abbrev pub invariant-loop-left : goal.invariant-loop-left
-invariant-loop-left l = l.from ≤ length l.line
-
-abbrev pub decreases-loop-left : goal.decreases-loop-left
-decreases-loop-left l = l.left
