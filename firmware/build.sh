@@ -77,10 +77,11 @@ check_same() {
 # of these as results. So no vector, no float, no variable, no code of a processor. Prints what else there is; nothing, if the module is portable.
 unportable() { # MODULE
     local same=(add align alloca and br call define eq extractvalue false getelementptr i1 i8 i16 i32 i64 icmp inbounds internal label load lshr mul ne noundef null nuw or ptr
-        ret shl store sub switch to true trunc udiv ule ult unreachable urem void x xor zeroext zext)
+        ret sext shl store sub switch to true trunc udiv ule ult unreachable urem void x xor zeroext zext)
     sed -n '/^define /,/^}/p' "$1" | sed -e 's/;.*//' -e 's/[@%]"[^"]*"//g' -e 's/[@%!][A-Za-z0-9_.]*//g' -e 's/^[a-z]*\(\.[0-9]*\)\{0,1\}:.*//' |
         grep -oE '[A-Za-z_][A-Za-z0-9_]*|[^][A-Za-z0-9_ #(),.:={}-]' | sort -u | grep -vxF "$(printf '%s\n' "${same[@]}")" || true
-    grep -E '^@' "$1" || true
+    # of constants only one without bytes
+    grep -E '^@' "$1" | grep -vE '^@static\.[0-9]+ = private unnamed_addr constant \[0 x i8\] zeroinitializer, align 1$' || true
     grep -E '^declare ' "$1" | grep -vE '@llvm\.(memmove\.p0\.p0\.i64|memset\.p0\.i64|ctpop\.i64|cttz\.i64|trap)\(' || true
     grep -E '^define ' "$1" | grep -v '^define internal ' | sed 's/ %[a-z0-9]*//g' | grep -vE '^define noundef i64 @[a-z_]+\(((i64|ptr) noundef(, )?)*\) #0 \{$' || true
     # a cycle of calls, which would leave the stack without a bound
@@ -88,12 +89,14 @@ unportable() { # MODULE
         / call /{ s = $0; sub(/.* call [^@]*@/, "", s); sub(/^"/, "", s); sub(/["(].*/, "", s); print f, s; if (f == s) print f, f "+\n" f "+", f }' "$1" | { tsort >/dev/null; } 2>&1 || true
 }
 
-# ... and it is seen if it does not: a line of each sort, put into a function, is objected to.
+# ... and it is seen if it does not: a line of each sort, put into the first function, is objected to; one calls that function.
 check_portable() { # NAME
-    local line found
+    local line found first
     found=$(unportable "$out/$1.ll")
     [ -z "$found" ] || fail "the module has what may mean something else on another core (if it does not, add it to 'same'):" "$found"
+    first=$(sed -n '/^define /{s/^[^@]*@\("[^"]*"\|[A-Za-z0-9_.]*\)(.*/\1/p;q}' "$out/$1.ll")
     while read -r line; do
+        line=${line/FIRST/$first}
         awk -v line="$line" '{ print } /^start:/ && !done { print line; done = 1 }' "$out/$1.ll" >"$out/unportable.ll"
         [ -n "$(unportable "$out/unportable.ll")" ] || fail "this was not objected to: $line"
     done <<'END'
@@ -106,7 +109,7 @@ check_portable() { # NAME
 %s = load i64, ptr addrspace(1) %a, align 8
 %t = load volatile i64, ptr %a, align 8
 call void asm sideeffect "nop", ""()
-%r = call i8 @"bits::number::low"(i64 0)
+%r = call i8 @FIRST(i64 0)
 END
     rm -f "$out/unportable.ll"
 }

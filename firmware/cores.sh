@@ -8,10 +8,10 @@ entries=(hoglidra hoglidra_arrays)
 cores='
 aarch64           | --target=aarch64-linux-gnu -mcpu=cortex-a53                                         |                               | aarch64-linux-gnu-gcc   | -mcpu=cortex-a53               | qemu-aarch64 -cpu cortex-a53
 armv7             | --target=armv7a-linux-gnueabihf -mfpu=vfpv3-d16                                     |                               | arm-linux-gnueabihf-gcc | -march=armv7-a -mfpu=vfpv3-d16 | qemu-arm -cpu cortex-a7
-armv5te           | --target=armv5te-linux-gnueabi -mcpu=arm926ej-s -mfloat-abi=soft                    | memset                        | arm-linux-gnueabi-gcc   | -mcpu=arm926ej-s               | qemu-arm -cpu arm926
+armv5te           | --target=armv5te-linux-gnueabi -mcpu=arm926ej-s -mfloat-abi=soft                    |                               | arm-linux-gnueabi-gcc   | -mcpu=arm926ej-s               | qemu-arm -cpu arm926
 cortex-m7         | --target=thumbv7em-none-eabi -mcpu=cortex-m7 -mfloat-abi=soft                       |                               | arm-linux-gnueabi-gcc   |                                | qemu-arm -cpu cortex-a7
-cortex-m7-aligned | --target=thumbv7em-none-eabi -mcpu=cortex-m7 -mfloat-abi=soft -mno-unaligned-access | __aeabi_memclr __aeabi_memclr8| arm-linux-gnueabi-gcc   |                                | qemu-arm -cpu cortex-a7
-riscv64           | --target=riscv64-linux-gnu -march=rv64gc -mabi=lp64d                                | memset                        | riscv64-linux-gnu-gcc   |                                | qemu-riscv64
+cortex-m7-aligned | --target=thumbv7em-none-eabi -mcpu=cortex-m7 -mfloat-abi=soft -mno-unaligned-access |                               | arm-linux-gnueabi-gcc   |                                | qemu-arm -cpu cortex-a7
+riscv64           | --target=riscv64-linux-gnu -march=rv64gc -mabi=lp64d                                |                               | riscv64-linux-gnu-gcc   |                                | qemu-riscv64
 '
 
 core_names() {

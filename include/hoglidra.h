@@ -73,8 +73,8 @@ struct hoglidra_answer {
    `total` says in full how much that is.
 
    The four numbers go over the first 32 bytes of the answer, 8 bytes each, little-endian; the number is also returned. An answer slice of fewer than 32 bytes
-   gets 7, and nothing is written at all. The call uses less than 2,048 bytes of stack and no heap. It calls no other library, but for memcpy and memset on cores
-   that allow no unaligned access (docs/FIRMWARE.md). */
+   gets 7, and nothing is written at all. The call uses less than 2,048 bytes of stack and no heap. It calls no other library, on any core
+   (docs/FIRMWARE.md). */
 uint64_t hoglidra_take(
     uint64_t kind, uint64_t width, uint64_t size, uint64_t offset_width, uint64_t rows, uint64_t data_bit, uint64_t validity_bit,
     const uint8_t *data, uint64_t data_len, const uint8_t *offsets, uint64_t offsets_len, const uint8_t *validity, uint64_t validity_len,
