@@ -1,7 +1,7 @@
 // The row reader: a row of variable bytes, as a part of the caller's data. Any numbers and any buffers may be handed in; for a table that one of
 // refusals 1 to 4 meets, another kind, an absent row or a null row the part is empty, and the second entry says no.
 ghost use Rattle.std.specs.Prelude.{◌≡◌};
-ghost use Rattle.tables.specs.Columns.{column_of};
+ghost use Rattle.tables.specs.Columns.{column_at, column_of};
 ghost use Rattle.reader.specs.Row.{has_row, row_start, read_row, place_of};
 ghost use Rattle.reader.specs.Found.{row_found};
 
@@ -9,13 +9,25 @@ use bits::number::number_at;
 use buffers::bit::is_valid;
 use checks::columns::check_table;
 use tables::column::Column;
+use tables::table::Table;
 
 // The row's bytes, where they lie, if there is such a row and it is valid.
-fn find_row<'a>(column: &Column<'a>, row: u64) -> Option<&'a [u8]>
-    ensures { result ≡ row_found column.now.«data» (column_of column.now) row }
+fn find_row<'a>(
+    table: Table,
+    data: &'a [u8],
+    offsets: &[u8],
+    validity: &[u8],
+    row: u64,
+) -> Option<&'a [u8]>
+    ensures { result ≡ row_found «data».entry (column_at table «data».entry offsets.entry validity.entry) row }
 {
-    check_table(column).ok()?;
-    let table = column.table;
+    let column = Column {
+        table,
+        data,
+        offsets,
+        validity,
+    };
+    check_table(&column).ok()?;
     // The number itself, as in the definition of a row that is there: one kind is asked for, and none is chosen by.
     if table.kind != 3 {
         return None;
@@ -24,26 +36,40 @@ fn find_row<'a>(column: &Column<'a>, row: u64) -> Option<&'a [u8]>
         return None;
     }
     let at = row as usize;
-    if is_valid(column.validity, table.validity_bit as usize, at) != 1 {
+    if is_valid(validity, table.validity_bit as usize, at) != 1 {
         return None;
     }
     let width = table.offset_width as usize;
-    let from = number_at(column.offsets, width, at) as usize;
-    let to = number_at(column.offsets, width, at + 1) as usize;
-    Some(&column.data[from..to])
+    let from = number_at(offsets, width, at) as usize;
+    let to = number_at(offsets, width, at + 1) as usize;
+    Some(&data[from..to])
 }
 
 // The row's bytes, where they lie; where there is no such row, an empty part at the start of the data.
-pub fn read_row<'a>(column: &Column<'a>, row: u64) -> &'a [u8]
-    ensures place { result.ref_ptr ≡ place_of (row_start (column_of column.now) row) column.now.«data».ref_ptr }
-    ensures bytes { result.now ≡ read_row (column_of column.now) row }
+// (The buffers are apart, and no `Column`: of them the data alone has to live as long as the part.)
+pub fn read_row<'a>(
+    table: Table,
+    data: &'a [u8],
+    offsets: &[u8],
+    validity: &[u8],
+    row: u64,
+) -> &'a [u8]
+    ensures place { result.ref_ptr ≡ place_of (row_start (column_at table «data».entry offsets.entry validity.entry) row) «data».entry.ref_ptr }
+    ensures bytes { result.now ≡ read_row (column_at table «data».entry offsets.entry validity.entry) row }
 {
-    find_row(column, row).unwrap_or(&column.data[0..0])
+    find_row(table, data, offsets, validity, row).unwrap_or(&data[0..0])
 }
 
 // Whether there is such a row, and it is valid.
 pub fn has_row(column: &Column<'_>, row: u64) -> bool
     ensures { result ≡ has_row (column_of column.now) row }
 {
-    find_row(column, row).is_some()
+    find_row(
+        column.table,
+        column.data,
+        column.offsets,
+        column.validity,
+        row,
+    )
+    .is_some()
 }

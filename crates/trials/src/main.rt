@@ -177,7 +177,14 @@ fn space(rt: &impl Print) -> io::Result<()> {
 // A row of table A, by both entries of the row reader.
 fn row(rt: &impl Print, number: u64) -> io::Result<()> {
     let column = column_a();
-    let bytes = read_row(&column, number).escape_ascii();
+    let bytes = read_row(
+        column.table,
+        column.data,
+        column.offsets,
+        column.validity,
+        number,
+    )
+    .escape_ascii();
     let found = if has_row(&column, number) {
         "found"
     } else {
