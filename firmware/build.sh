@@ -33,6 +33,8 @@ END
     chmod +x "$out/kit/$bin/clang"
     for name in "${entries[@]}"; do
         made=crates/${name}_c/out/lib${name}_c.a
+        # rt ci sets it aside
+        [ -e "$made" ] || (cd "crates/${name}_c" && rt lib) >"$out/rt.log" 2>&1 || { cat "$out/rt.log"; fail "rt lib failed"; }
         cp -p "$made" "$out/made.a"
         rm -f "$out/module.bc"
         (cd "crates/${name}_c" && "$OLDPWD/$out/kit/bin/rt" lib) >"$out/rt.log" 2>&1 || { cat "$out/rt.log"; fail "rt lib failed"; }
