@@ -5,22 +5,29 @@ use Rattle.bits.specs.Numbers.{number_at, is_number_width}
 use Rattle.bits.specs.Bits.{bit_value, is_absent, valid_at}
 use Rattle.lengths.specs.declared.row.Taken.{Taken}
 
--- what selects the output rows: the validity of the rows and the index column, with their bit offsets
+-- what selects the output rows, and their offsets: the validity of the rows and the index column, with their bit offsets
 pub record Selection : Type 0 where
   pub validity : List ℕ
   pub bit : ℕ
-  pub index_data : List ℕ
+  pub offset_width : ℕ
+  pub offsets : List ℕ
   pub width : ℕ
+  pub index_data : List ℕ
   pub index_validity : List ℕ
   pub index_bit : ℕ
 
 -- as lent to a function
-abbrev pub selection_at : Bor (List ℕ) → ℕ → Bor (List ℕ) → ℕ → Bor (List ℕ) → ℕ → Selection
-selection_at v b d w iv ib = record { validity = v.now; bit = b; index_data = d.now; width = w; index_validity = iv.now; index_bit = ib }
-
--- the same in the struct that the code passes, where an index has w bytes
-abbrev pub selection_of : ℕ → Rattle.lengths.specs.declared.row.Selection.Selection → Selection
-selection_of w s = selection_at s.validity s.bit s.index_data w s.index_validity s.index_bit
+abbrev pub selection_at : Bor (List ℕ) → ℕ → ℕ → Bor (List ℕ) → ℕ → Bor (List ℕ) → Bor (List ℕ) → ℕ → Selection
+selection_at v b ow o w d iv ib = record {
+  validity = v.now;
+  bit = b;
+  offset_width = ow;
+  offsets = o.now;
+  width = w;
+  index_data = d.now;
+  index_validity = iv.now;
+  index_bit = ib;
+}
 
 -- what the output rows are read by once their validity is written, where an offset has offset_width bytes
 pub record Shown : Type 0 where
@@ -32,9 +39,6 @@ pub record Shown : Type 0 where
 
 abbrev pub shown_at : ℕ → Bor (List ℕ) → ℕ → Bor (List ℕ) → Bor (List ℕ) → Shown
 shown_at ow o w d v = record { offset_width = ow; offsets = o.now; index_width = w; index_data = d.now; validity = v.now }
-
-abbrev pub shown_of : ℕ → Rattle.lengths.specs.declared.row.Shown.Shown → Shown
-shown_of ow s = shown_at ow s.offsets s.index_width s.index_data s.out_validity
 
 -- the number of index j, and whether it is valid
 abbrev pub row_number : Selection → ℕ → ℕ

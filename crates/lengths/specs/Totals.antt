@@ -7,18 +7,18 @@ use Rattle.lengths.specs.declared.total.Overflow.{Overflow}
 use Rattle.lengths.specs.Entries.{Selection, Shown, row_number, is_shown, entries_at, SelectionThere, EntriesThere}
 
 -- the entries of output row j: before anything is written, and by the validity that is written
-abbrev pub selected_entries : ℕ → List ℕ → Selection → ℕ → ℕ
-selected_entries w offsets p j = entries_at w offsets (is_shown p j) (row_number p j)
+abbrev pub selected_entries : Selection → ℕ → ℕ
+selected_entries p j = entries_at p.offset_width p.offsets (is_shown p j) (row_number p j)
 
 abbrev pub shown_entries : Shown → ℕ → ℕ
 shown_entries p j = entries_at p.offset_width p.offsets (bit_at p.validity j) (number_at p.index_width p.index_data j)
 
 -- what they are read from is there, and their total is a number of 64 bits
-pub record SelectedThere (w : ℕ) (offsets : List ℕ) (p : Selection) (count : ℕ) : Type 0 where
+pub record SelectedThere (p : Selection) (count : ℕ) : Type 0 where
   pub few : count < 2 ^ 60
   pub selection : (j : ℕ) → j < count → SelectionThere p j
-  pub entries : (j : ℕ) → j < count → EntriesThere w offsets (is_shown p j) (row_number p j)
-  pub small : sum count (selected_entries w offsets p) < 2 ^ 64
+  pub entries : (j : ℕ) → j < count → EntriesThere p.offset_width p.offsets (is_shown p j) (row_number p j)
+  pub small : sum count (selected_entries p) < 2 ^ 64
 
 pub record ShownThere (p : Shown) (count : ℕ) : Type 0 where
   pub few : count < 2 ^ 60

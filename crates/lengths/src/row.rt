@@ -1,31 +1,39 @@
-// One output row: the row that its index names, and how many entries it has. Its validity is that of its index and of the row, or, once it is written,
-// that of the output. What is not valid masks the number, so that a place that is always there is read: row 0, of at least one.
-ghost use Rattle.std.specs.Prelude.{◌≡◌, true, ◌+◌, ◌-◌, ◌*◌, ◌^◌, ◌≤◌, ◌<◌, length};
+// What selects the output rows, and one of them: the row that its index names, and how many entries it has. Its validity is that of its index and of the
+// row, or, once it is written, that of the output. What is not valid masks the number, so that a place that is always there is read: row 0, of at least one.
+ghost use Rattle.std.specs.Prelude.{◌≡◌, ◌+◌, ◌-◌, ◌*◌, ◌^◌, ◌≤◌, ◌<◌, length, true};
 ghost use Rattle.bits.specs.Numbers.{number_at, is_number_width};
-ghost use Rattle.bits.specs.Bits.{bit_at};
-ghost use Rattle.lengths.specs.Entries.{selection_of, shown_of, row_number, is_shown, taken_row, EntriesThere, SelectionThere};
-ghost use Rattle.lengths.specs.Totals.{selected_entries, shown_entries};
+ghost use Rattle.lengths.specs.Entries.{selection_at, shown_at, row_number, is_shown, taken_row};
+ghost use Rattle.lengths.specs.Totals.{selected_entries, shown_entries, SelectedThere, ShownThere};
 
 use bits::number::number_at;
 use buffers::bit::{get_bit, is_valid};
 
-// What selects the output rows: the validity of the rows and the index column, with the bits at which the validities start.
+// What selects the output rows, before anything is written: the validity of the rows, their offsets and the index column, with the bits at which the
+// validities start. All that is read is there. The widths are fields, for in `sum_within` one loop reads all widths.
 #[derive(Clone, Copy)]
 pub struct Selection<'a> {
     pub validity: &'a [u8],
     pub bit: usize,
+    pub offset_width: usize,
+    pub offsets: &'a [u8],
+    pub index_width: usize,
     pub index_data: &'a [u8],
     pub index_validity: &'a [u8],
     pub index_bit: usize,
+    pub count: usize,
+    ghost there: { SelectedThere (selection_at validity bit offset_width offsets index_width index_data index_validity index_bit) count },
 }
 
-// What the output rows are read by once their validity is written: the offsets of the rows, the indices, of `index_width` bytes, and that validity.
+// What the output rows are read by once their validity is written: the offsets of the rows, of OW bytes, the indices, and that validity. All that is read
+// is there.
 #[derive(Clone, Copy)]
-pub struct Shown<'a> {
+pub struct Shown<'a, const OW: usize> {
     pub offsets: &'a [u8],
     pub index_width: usize,
     pub index_data: &'a [u8],
     pub out_validity: &'a [u8],
+    pub count: usize,
+    ghost there: { ShownThere (shown_at OW offsets index_width index_data out_validity) count },
 }
 
 // The row of an output row, and 1; 0 and 0 where the output row is null: numbers that mask others, and no Option, which would be a branch.
@@ -36,10 +44,14 @@ struct Taken {
 }
 
 impl Selection<'_> {
-    // The row of output row j. An index has w bytes.
+    ghost use Rattle.lengths.specs.Lent.{selection_of};
+
+    // The row of output row j. The width is handed on beside the struct that has it: a literal counts, where the compiler asks whether to put a function in
+    // line, only as an argument. Read from the struct, it cost 40 rows of kind 3 from 3 to 8 % more instructions on armv5te, and none on x86-64.
     fn masked_row(&self, w: usize, j: usize) -> Taken
-        requires { SelectionThere (selection_of w self.now) j }
-        ensures { result ≡ taken_row (is_shown (selection_of w self.now) j) (row_number (selection_of w self.now) j) }
+        requires width { w ≡ self.now.index_width }
+        requires inside { j < self.now.count }
+        ensures { result ≡ taken_row (is_shown (selection_of self.now) j) (row_number (selection_of self.now) j) }
     {
         let v = is_valid(self.index_validity, self.index_bit, j);
         let r = number_at(self.index_data, w, j) as usize * v;
@@ -53,29 +65,28 @@ impl Selection<'_> {
         }
     }
 
-    // Its entries, before anything is written.
-    pub fn masked_entries(&self, w: usize, offsets: &[u8], ow: usize, j: usize) -> u64
-        requires selection_there { SelectionThere (selection_of w self.now) j }
-        requires entries_there { EntriesThere ow offsets.now (is_shown (selection_of w self.now) j) (row_number (selection_of w self.now) j) }
-        ensures { result ≡ selected_entries ow offsets.now (selection_of w self.now) j }
+    // Its entries.
+    pub(crate) fn masked_entries(&self, ow: usize, w: usize, j: usize) -> u64
+        requires widths { (ow ≡ self.now.offset_width) × (w ≡ self.now.index_width) }
+        requires inside { j < self.now.count }
+        ensures { result ≡ selected_entries (selection_of self.now) j }
     {
         let taken = self.masked_row(w, j);
-        entries_of(offsets, ow, taken)
+        entries_of(self.offsets, ow, taken)
     }
 }
 
-impl Shown<'_> {
-    // The entries of output row j, once its validity is written. An offset has ow bytes.
-    pub fn shown_entries(&self, ow: usize, j: usize) -> u64
-        requires width { is_number_width self.now.index_width ≡ true }
-        requires index_there { (j * self.now.index_width + self.now.index_width ≤ length self.now.index_data.now) × (j < 8 * length self.now.out_validity.now) }
-        requires entries_there { EntriesThere ow self.now.offsets.now (bit_at self.now.out_validity.now j)
-            (number_at self.now.index_width self.now.index_data.now j) }
-        ensures { result ≡ shown_entries (shown_of ow self.now) j }
+impl<const OW: usize> Shown<'_, OW> {
+    ghost use Rattle.lengths.specs.Lent.{shown_of};
+
+    // The entries of output row j.
+    pub(crate) fn shown_entries(&self, j: usize) -> u64
+        requires { j < self.now.count }
+        ensures { result ≡ shown_entries (shown_of OW self.now) j }
     {
         let v = get_bit(self.out_validity, j);
         let row = number_at(self.index_data, self.index_width, j) as usize * v;
-        entries_of(self.offsets, ow, Taken { row, valid: v })
+        entries_of(self.offsets, OW, Taken { row, valid: v })
     }
 }
 

@@ -18,7 +18,7 @@ use Rattle.bits.proofs.Numbers.{AllBytes}
 use Rattle.bits.proofs.Sequences.{concat-skip, climb}
 use Rattle.bits.proofs.Words.{NextOne, next_one, no_more}
 use Rattle.rows.specs.Front.{front_bytes}
-use Rattle.rows.specs.Rows.{Sources, row_at, row_from, row_length, row_bytes, written_row, RowThere, CopyReady, RowsCopied, rows_to, word_bytes}
+use Rattle.rows.specs.Rows.{Sources, row_at, row_from, row_length, row_bytes, written_row, RowThere, CopyReady, RowsCopied, rows_to, word_bytes, AreBytes}
 use Rattle.rows.proofs.Fronts.{front-first, front_long, written-front}
 
 -- ---- a row's bytes
@@ -141,10 +141,13 @@ record Turn (valid : List ℕ) (count k word j t : ℕ) : Type 0 where
   set : bit_at valid (j + t) ≡ true
   left : word / 2 ^ t / 2 ^ 1 ≡ little_endian (part k (word_bytes count k) valid) / 2 ^ (j + t + 1 - 8 * k)
 
-module _ {b : Sources} {valid : List ℕ} {count : ℕ} (q : CopyReady b valid count) (bytes : AllBytes valid)
+module _ {b : Sources} {valid : List ℕ} {count : ℕ} (q : CopyReady b valid count) (are : AreBytes valid)
     {o : List ℕ} {k word j : ℕ} (h : k < bytes_for count) (i : WordCopied b valid count o k word j) where
   abbrev m : ℕ
   m = word_bytes count k
+
+  bytes : AllBytes valid
+  bytes p = record { fits = are p }
 
   there : k + m ≤ length valid
   there = omega (arith, q.shown)

@@ -1,5 +1,5 @@
 -- The rows that are copied, by what is read; what the routines that copy them ask of each other, and how far they have come.
-use Rattle.std.specs.Prelude.{ℕ, ◌+◌, ◌-◌, ◌*◌, ◌^◌, ◌≤◌, ◌<◌, ◌≡◌, true, false, List, length, take, drop}
+use Rattle.std.specs.Prelude.{ℕ, ◌+◌, ◌-◌, ◌*◌, ◌^◌, ◌≤◌, ◌<◌, ◌≡◌, true, false, List, get_or, length, take, drop}
 use Rattle.std.specs.Borrow.{Bor}
 use Rattle.bits.specs.Sequences.{concat}
 use Rattle.bits.specs.Bytes.{part}
@@ -29,10 +29,6 @@ sources_at u ow w d o x s = record {
   index_data = x.now;
   out_offsets = s.now;
 }
-
--- the same in the struct that the code passes, where an offset has ow bytes
-abbrev pub sources_of : ℕ → Rattle.rows.specs.declared.row.Sources.Sources → Sources
-sources_of ow s = sources_at s.unit ow s.index_width s.«data» s.offsets s.index_data s.out_offsets
 
 -- output row j goes to the running total, and comes from the offset of the row that its index names
 abbrev pub row_at : Sources → ℕ → ℕ
@@ -85,6 +81,10 @@ pub record RowsCopied (b : Sources) (s : List ℕ) (j : ℕ) : Type 0 where
   pub front : take (row_at b j) s ≡ concat j (row_bytes b)
 
 -- ---- the validity, a word of 8 bytes at a time
+
+-- each element is a byte
+abbrev pub AreBytes : List ℕ → Type 0
+AreBytes s = (p : ℕ) → get_or s p 0 < 256
 
 -- how many of the rows have their bits before byte k
 abbrev pub rows_to : ℕ → ℕ → ℕ

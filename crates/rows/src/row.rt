@@ -1,31 +1,37 @@
 // The valid rows, which the bits of the output's validity name, from the lowest on. Null rows have no bytes, so nothing is done for them and no branch
 // asks for them. Nothing is read or written but the data and the output as they are lent: the caller cuts the data to what the offsets need, and here the
-// output is cut to what the rows use.
-ghost use Rattle.std.specs.Prelude.{◌≡◌, true, ◌+◌, ◌-◌, ◌*◌, ◌^◌, ◌≤◌, ◌<◌, length};
+// output is cut to what the rows use. How long it is stays with the functions: it is lent to be written, and no struct here holds it.
+ghost use Rattle.std.specs.Prelude.{◌≡◌, ◌+◌, ◌-◌, ◌*◌, ◌^◌, ◌≤◌, ◌<◌, length};
 ghost use Rattle.bits.specs.Sequences.{concat};
 ghost use Rattle.bits.specs.Bytes.{part, overwrite};
-ghost use Rattle.bits.specs.Numbers.{little_endian, is_number_width};
+ghost use Rattle.bits.specs.Numbers.{little_endian};
 ghost use Rattle.bits.specs.Bits.{bytes_for};
-ghost use Rattle.rows.specs.Rows.{sources_of, row_at, row_bytes, written_row, RowThere, CopyReady, RowsCopied, rows_to};
+ghost use Rattle.rows.specs.Rows.{sources_at, row_at, row_bytes, written_row, RowThere, CopyReady, RowsCopied, rows_to, AreBytes};
 
 use crate::front::copy_front;
 use bits::number::{number_at, read_u64};
 
-// What the rows are copied by: the data and its offsets, an entry of `unit` bytes, the indices, of `index_width` bytes, and the offsets of the output.
+// What the rows are copied by: the data and its offsets, of OW bytes, an entry of `unit` bytes, the indices, the offsets of the output, and the validity that
+// is written for it. The rows that it shows are there.
 #[derive(Clone, Copy)]
-pub struct Sources<'a> {
+pub struct Sources<'a, const OW: usize> {
     pub unit: usize,
     pub data: &'a [u8],
     pub offsets: &'a [u8],
     pub index_width: usize,
     pub index_data: &'a [u8],
     pub out_offsets: &'a [u8],
+    pub out_validity: &'a [u8],
+    pub count: usize,
+    ghost ready: { CopyReady (sources_at unit OW index_width «data» offsets index_data out_offsets) out_validity.now count },
 }
 
-impl Sources<'_> {
-    // Where output row j starts. An offset has OW bytes.
-    fn row_at<const OW: usize>(&self, j: usize) -> usize
-        requires there { (is_number_width OW ≡ true) × (j * OW + OW ≤ length self.now.out_offsets.now) }
+impl<const OW: usize> Sources<'_, OW> {
+    ghost use Rattle.rows.specs.Lent.{sources_of};
+
+    // Where output row j starts.
+    fn row_at(&self, j: usize) -> usize
+        requires there { j * OW + OW ≤ length self.now.out_offsets.now }
         requires fits { row_at (sources_of OW self.now) j < 2 ^ 64 }
         ensures { result ≡ row_at (sources_of OW self.now) j }
     {
@@ -33,81 +39,76 @@ impl Sources<'_> {
     }
 
     // Output row j, which is valid. The bytes before it stay; those after it may become zeros, and are written later.
-    fn copy_row<const OW: usize>(&self, out_data: &mut [u8], j: usize)
+    fn copy_row(&self, out_data: &mut [u8], j: usize)
         requires { RowThere (sources_of OW self.now) (length out_data.old) j }
         ensures { out_data.new ≡ written_row (sources_of OW self.now) j out_data.old }
     {
-        let at = self.row_at::<OW>(j);
-        let end = self.row_at::<OW>(j + 1);
+        let at = self.row_at(j);
+        let end = self.row_at(j + 1);
         let row = number_at(self.index_data, self.index_width, j) as usize;
         let from = number_at(self.offsets, OW, row) as usize * self.unit;
         copy_front(&self.data[from..], end - at, &mut out_data[at..]);
     }
 
     // The valid rows of the word at byte k of the validity.
-    fn copy_word<const OW: usize>(
-        &self,
-        out_validity: &[u8],
-        count: usize,
-        out_data: &mut [u8],
-        k: usize,
-    )
-        requires copy_ready { CopyReady (sources_of OW self.now) out_validity.now count }
-        requires word_there { (row_at (sources_of OW self.now) count ≡ length out_data.old) × (k < bytes_for count) }
+    fn copy_word(&self, out_data: &mut [u8], k: usize)
+        requires word_there { (row_at (sources_of OW self.now) self.now.count ≡ length out_data.old) × (k < bytes_for self.now.count) }
         requires rows_copied { RowsCopied (sources_of OW self.now) out_data.old (8 * k) }
-        ensures { RowsCopied (sources_of OW self.now) out_data.new (rows_to count (k + 8)) }
+        ensures { RowsCopied (sources_of OW self.now) out_data.new (rows_to self.now.count (k + 8)) }
     {
-        let mut word = word_at(out_validity, k, (count + 7) / 8);
+        let mut word = word_at(self.out_validity, k, (self.count + 7) / 8);
         let mut j = 8 * k;
         // A turn goes to the next bit that is set, which no range counts.
         while word != 0 {
             let t = word.trailing_zeros() as usize;
             j += t;
-            self.copy_row::<OW>(out_data, j);
+            self.copy_row(out_data, j);
             word = word >> t >> 1;
             j += 1;
         }
     }
 
     // All words.
-    fn copy_words<const OW: usize>(&self, out_validity: &[u8], count: usize, out_data: &mut [u8])
-        requires copy_ready { CopyReady (sources_of OW self.now) out_validity.now count }
-        requires room { row_at (sources_of OW self.now) count ≡ length out_data.old }
-        ensures { out_data.new ≡ concat count (row_bytes (sources_of OW self.now)) }
+    fn copy_words(&self, out_data: &mut [u8])
+        requires { row_at (sources_of OW self.now) self.now.count ≡ length out_data.old }
+        ensures { out_data.new ≡ concat self.now.count (row_bytes (sources_of OW self.now)) }
     {
-        let bytes = (count + 7) / 8;
+        let bytes = (self.count + 7) / 8;
         for k in (0..bytes).step_by(8) {
-            self.copy_word::<OW>(out_validity, count, out_data, k);
+            self.copy_word(out_data, k);
         }
     }
 
     // All valid rows, a word of their bits at a time: each offset width has a loop of its own. (In line, its registers would be taken from the loop over the
     // offsets before it.)
     #[inline(never)]
-    pub fn copy_rows<const OW: usize>(&self, out_validity: &[u8], count: usize, out_data: &mut [u8])
-        requires copy_ready { CopyReady (sources_of OW self.now) out_validity.now count }
-        requires room { row_at (sources_of OW self.now) count ≤ length out_data.old }
-        ensures { out_data.new ≡ overwrite (concat count (row_bytes (sources_of OW self.now))) out_data.old }
+    pub fn copy_rows(&self, out_data: &mut [u8])
+        requires { row_at (sources_of OW self.now) self.now.count ≤ length out_data.old }
+        ensures { out_data.new ≡ overwrite (concat self.now.count (row_bytes (sources_of OW self.now))) out_data.old }
     {
         // field by field, and each slice cut anew: of the whole, or of a slice as it lies there, a core without unaligned accesses makes a call of `memcpy`
-        let sources = Sources {
+        let sources = Self {
             unit: self.unit,
             data: &self.data[..],
             offsets: &self.offsets[..],
             index_width: self.index_width,
             index_data: &self.index_data[..],
             out_offsets: &self.out_offsets[..],
+            out_validity: &self.out_validity[..],
+            count: self.count,
         };
-        let used = sources.row_at::<OW>(count);
-        sources.copy_words::<OW>(out_validity, count, &mut out_data[..used]);
+        let used = sources.row_at(sources.count);
+        sources.copy_words(&mut out_data[..used]);
     }
 }
 
-// The number of the bytes from k up to n, of which it takes at most 8: the validity of up to 64 rows.
+// The number of the bytes from k up to n, of which it takes at most 8: the validity of up to 64 rows. That they are bytes is known of a slice that is lent,
+// and not of one in a struct, so it is said here.
 #[tactic(auto, using(bits::proofs::Numbers::number_down))]
 fn word_at(valid: &[u8], k: usize, n: usize) -> u64
     requires { (k ≤ n) × (n ≤ length valid.now) }
-    ensures { result ≡ little_endian (part k (8 - (8 - (n - k))) valid.now) }
+    ensures number { result ≡ little_endian (part k (8 - (8 - (n - k))) valid.now) }
+    ensures bytes { AreBytes valid.now }
 {
     if 8 <= n - k {
         return read_u64(valid, k);

@@ -70,7 +70,7 @@ module _ {u : ℕ} {c : Column} {x : IndexColumn} (r : Ready c x) (e : layout_at
 
   -- the entries as they are read
   abbrev read : ℕ → ℕ
-  read = selected_entries w c.offsets (selection_of c x)
+  read = selected_entries (selection_of c x)
 
   totals : (i : ℕ) → sum i read ≡ sum i E
   totals i = sum-cong i (λ j h. selected-entries u c x j)

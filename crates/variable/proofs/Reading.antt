@@ -1,5 +1,5 @@
 -- What the tests of a column of variable width and of an index column say of what is read: it is there, and it is what `take_rows` takes. Assumes nothing.
-use mathlib.Core.Path.{◌≡◌, refl, sym, ◌∙◌}
+use mathlib.Core.Path.{◌≡◌, refl, sym, ◌∙◌, subst}
 use mathlib.Core.Bool.{Bool, true, false, ◌&&◌}
 use mathlib.Core.List.{List}
 use Prim.Native.Nat.{ℕ, suc, ◌+◌, ◌*◌, ◌≤◌, ◌<◌}
@@ -33,16 +33,18 @@ abbrev pub selection_of : Column → IndexColumn → Selection
 selection_of c x = record {
   validity = c.validity;
   bit = c.table.validity_bit;
-  index_data = x.«data»;
+  offset_width = c.table.offset_width;
+  offsets = c.offsets;
   width = x.indices.width;
+  index_data = x.«data»;
   index_validity = x.validity;
   index_bit = x.indices.validity_bit;
 }
 
--- and by the validity s of the output rows, once it is written
-abbrev pub shown_of : Column → IndexColumn → List ℕ → Shown
-shown_of c x s = record {
-  offset_width = c.table.offset_width;
+-- and by the validity s of the output rows, once it is written, where an offset has ow bytes
+abbrev pub shown_of : ℕ → Column → IndexColumn → List ℕ → Shown
+shown_of ow c x s = record {
+  offset_width = ow;
   offsets = c.offsets;
   index_width = x.indices.width;
   index_data = x.«data»;
@@ -85,11 +87,11 @@ module _ (u : ℕ) (c : Column) (x : IndexColumn) (j : ℕ) where
           ∙ rw (e, ← offset_at-number c (suc (index x j)), ← offset_at-number c (index x j)) (sym (entries-valid c x u j f))
       go false f = entries_at-null w c.offsets n (d ∙ f) ∙ sym (entries-null c x u j f)
 
-  pub selected-entries : selected_entries w c.offsets (selection_of c x) j ≡ taken_entries c x j
+  pub selected-entries : selected_entries (selection_of c x) j ≡ taken_entries c x j
   selected-entries = entries_by (shown-taken c x j) (sym (index_number x j))
 
   pub shown-entries : {s : List ℕ} → Validates c.validity c.table.validity_bit x s → j < x.indices.count
-      → shown_entries (shown_of c x s) j ≡ taken_entries c x j
+      → shown_entries (shown_of w c x s) j ≡ taken_entries c x j
   shown-entries v h = entries_by (validates-bit v j h) (sym (index_number x j))
 
 module _ {u : ℕ} {c : Column} {x : IndexColumn} (r : Ready c x) (e : layout_at c ≡ VariableWidth u) where
@@ -134,10 +136,10 @@ module _ {u : ℕ} {c : Column} {x : IndexColumn} (r : Ready c x) (e : layout_at
           go true d = rw (mul-one (row_number (selection_of c x) j), ← index_number x j) (valid-below c.table.rows x r.indices j h (index-valid x j ∙ d))
           go false d = rw (mul-zero (row_number (selection_of c x) j)) some
 
-  pub selected-sum : sum x.indices.count (selected_entries c.table.offset_width c.offsets (selection_of c x)) ≡ sum x.indices.count (taken_entries c x)
+  pub selected-sum : sum x.indices.count (selected_entries (selection_of c x)) ≡ sum x.indices.count (taken_entries c x)
   selected-sum = sum-cong x.indices.count (λ j h. selected-entries u c x j)
 
-  pub selected-there : 0 < c.table.rows → SelectedThere c.table.offset_width c.offsets (selection_of c x) x.indices.count
+  pub selected-there : 0 < c.table.rows → SelectedThere (selection_of c x) x.indices.count
   selected-there some = record {
     few = omega (arith, index-facts.count);
     selection = selection-there some;
@@ -147,11 +149,11 @@ module _ {u : ℕ} {c : Column} {x : IndexColumn} (r : Ready c x) (e : layout_at
 
   -- by the validity that is written
   module _ {s : List ℕ} (v : Validates c.validity c.table.validity_bit x s) where
-    pub shown-sum : (i : ℕ) → i ≤ x.indices.count → sum i (shown_entries (shown_of c x s)) ≡ sum i (taken_entries c x)
+    pub shown-sum : (i : ℕ) → i ≤ x.indices.count → sum i (shown_entries (shown_of c.table.offset_width c x s)) ≡ sum i (taken_entries c x)
     shown-sum i h = sum-cong i (λ j l. shown-entries u c x j v (omega arith))
 
-    pub shown-there : ShownThere (shown_of c x s) x.indices.count
-    shown-there = record {
+    shown-own : ShownThere (shown_of c.table.offset_width c x s) x.indices.count
+    shown-own = record {
       few = omega (arith, index-facts.count);
       offset_width = offset-number;
       index_width = index-facts.width;
@@ -160,3 +162,6 @@ module _ {u : ℕ} {c : Column} {x : IndexColumn} (r : Ready c x) (e : layout_at
       entries = λ j h. entries-there (bit_at s j) (number_at x.indices.width x.«data» j) (taken-row j h (validates-bit v j h));
       small = rw (shown-sum x.indices.count (omega arith)) (omega (arith, (total-small c x u e r x.indices.count (omega arith)).0));
     }
+
+    pub shown-there : {ow : ℕ} → c.table.offset_width ≡ ow → ShownThere (shown_of ow c x s) x.indices.count
+    shown-there same = subst (λ (n : ℕ). ShownThere (shown_of n c x s) x.indices.count) same shown-own

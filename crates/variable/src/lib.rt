@@ -2,6 +2,6 @@
 // output with refusal 6, and the rows, copied. Here a column's tests give what the loops of `lengths` and `rows` ask for.
 #![tactic(auto)]
 
-mod width; // width.rt: a loop for each offset width
+mod width; // width.rt: a loop for each pair of widths
 pub mod total; // total.rt: how many bytes the rows need, and refusal 6
 pub mod take; // take.rt: the offsets of the rows, and the rows

@@ -16,6 +16,7 @@ use tables::column::{Column, IndexColumn};
 use tables::refusal::Refusal;
 use tables::table::Kind;
 
+// The largest offset of w bytes. Of 8 bytes it is the largest number of 64 bits, which no total passes: an `Option` would be a second test of the sum.
 fn largest_offset(w: u64) -> u64
     ensures { result ≡ largest_offset w }
 {
@@ -48,18 +49,19 @@ pub fn measure_variable(
     if table.rows == 0 {
         return Ok(0);
     }
-    let ow = table.offset_width as usize;
-    let w = indices.indices.width as usize;
     let selection = Selection {
         validity: column.validity,
         bit: table.validity_bit as usize,
+        offset_width: table.offset_width as usize,
+        offsets: column.offsets,
+        index_width: indices.indices.width as usize,
         index_data: indices.data,
         index_validity: indices.validity,
         index_bit: indices.indices.validity_bit as usize,
+        count: indices.indices.count as usize,
     };
-    let count = indices.indices.count as usize;
     let most = largest_offset(table.offset_width);
-    match sum_within_by_width(column.offsets, ow, &selection, w, count, most) {
+    match sum_within_by_width(&selection, most) {
         Ok(sum) => Ok(sum * unit),
         Err(over) => {
             let total = overflow_total(Kind::from(table.kind), over.after, over.before);

@@ -7,11 +7,14 @@ use Rattle.variable.proofs.total.measure_variable.Goals as goal
 pub returns-then-table-eq0 : goal.returns-then-table-eq0
 returns-then-table-eq0 c = no_rows c.requires.ready c.requires.layout (omega arith)
 
+pub invariant_of-selection : goal.invariant_of-selection
+invariant_of-selection c = record { there = selected-there c.requires.ready c.requires.layout (omega arith) }
+
 pub sum_within_by_width-requires : goal.sum_within_by_width-requires
 sum_within_by_width-requires c =
     let r = c.requires.ready in
     let l = c.requires.layout in
-    record { offset_width = ((facts r l).width, (index-facts r l).width); selected_there = selected-there r l (omega arith) }
+    record { widths = ((facts r l).width, (index-facts r l).width) }
 
 pub overflow_mul-result : goal.overflow_mul-result
 overflow_mul-result c = omega (arith, bytes_fit c.requires.ready c.requires.layout _ c.in-Ok.ensures)

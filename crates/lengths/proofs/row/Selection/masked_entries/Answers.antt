@@ -4,4 +4,4 @@ use Rattle.lengths.proofs.Masking.{taken-there}
 use Rattle.lengths.proofs.row.Selection.masked_entries.Goals as goal
 
 pub returns : goal.returns
-returns c = c.entries_of.ensures ∙ (taken-there c.requires.entries_there c.masked_row-taken.ensures).entries
+returns c = (rw c.requires.widths.0 at c.entries_of.ensures) ∙ (taken-there (c.args.self.now.there.entries _ c.requires.inside) c.masked_row-taken.ensures).entries

@@ -6,7 +6,7 @@ use Rattle.lengths.proofs.Masking.{row-by-index, row-by-bit}
 use Rattle.lengths.proofs.row.Selection.masked_row.Goals as goal
 
 pub returns-then-is_empty : goal.returns-then-is_empty
-returns-then-is_empty c = row-by-index c.requires c.is_valid-v.ensures c.number_at.ensures (eqb-true (length c.args.self.now.validity.now) 0 (sym c.is_empty.ensures ∙ c.if-is_empty.true))
+returns-then-is_empty c = row-by-index (c.args.self.now.there.selection _ c.requires.inside) c.is_valid-v.ensures (rw c.requires.width at c.number_at.ensures) (eqb-true (length c.args.self.now.validity.now) 0 (sym c.is_empty.ensures ∙ c.if-is_empty.true))
 
 pub returns : goal.returns
-returns c = row-by-bit c.requires c.is_valid-v.ensures c.number_at.ensures (eqb-false (length c.args.self.now.validity.now) 0 (sym c.is_empty.ensures ∙ c.if-is_empty.false)) c.get_bit.ensures
+returns c = row-by-bit (c.args.self.now.there.selection _ c.requires.inside) c.is_valid-v.ensures (rw c.requires.width at c.number_at.ensures) (eqb-false (length c.args.self.now.validity.now) 0 (sym c.is_empty.ensures ∙ c.if-is_empty.false)) c.get_bit.ensures

@@ -4,4 +4,4 @@ use Rattle.lengths.proofs.Masking.{shown-there}
 use Rattle.lengths.proofs.row.Shown.shown_entries.Goals as goal
 
 pub returns : goal.returns
-returns c = c.entries_of.ensures ∙ (shown-there c.requires.entries_there c.get_bit-v.ensures c.number_at.ensures).entries
+returns g c = c.entries_of.ensures ∙ (shown-there (c.args.self.now.there.entries _ c.requires) c.get_bit-v.ensures c.number_at.ensures).entries
