@@ -1,5 +1,5 @@
-// The bytes of one row, in three length classes. Of a row of fewer than 8 bytes 8 are read and written where so many may be: one load and one store,
-// whatever its length is, with zeros after its bytes. Rows after it are written later, over the zeros.
+// The bytes of one row, in four length classes: fewer than 8, and the three of `copy_wide`. Of fewer than 8 bytes 8 are read and written where so many may
+// be: one load and one store, whatever the length is, with zeros after the row's bytes. Rows after it are written later, over the zeros.
 ghost use Rattle.std.specs.Prelude.{◌≡◌, ◌≤◌, ◌<◌, length};
 ghost use Rattle.bits.specs.Bytes.{overwrite};
 ghost use Rattle.rows.specs.Front.{padded, front_bytes};
@@ -24,7 +24,7 @@ pub fn copy_front(src: &[u8], n: usize, dst: &mut [u8])
     ensures { dst.new ≡ overwrite (front_bytes n (length src.now) (length dst.old) src.now) dst.old }
 {
     if n < 8 {
-        if (8 <= src.len()) & (8 <= dst.len()) {
+        if 8 <= src.len() && 8 <= dst.len() {
             copy_masked(src, n, dst);
             return;
         }

@@ -56,7 +56,7 @@ impl<const OW: usize> Sources<'_, OW> {
         requires rows_copied { RowsCopied (sources_of OW self.now) out_data.old (8 * k) }
         ensures { RowsCopied (sources_of OW self.now) out_data.new (rows_to self.now.count (k + 8)) }
     {
-        let mut word = word_at(self.out_validity, k, (self.count + 7) / 8);
+        let mut word = word_at(self.out_validity, k, self.count.div_ceil(8));
         let mut j = 8 * k;
         // A turn goes to the next bit that is set, which no range counts.
         while word != 0 {
@@ -73,7 +73,7 @@ impl<const OW: usize> Sources<'_, OW> {
         requires { row_at (sources_of OW self.now) self.now.count ≡ length out_data.old }
         ensures { out_data.new ≡ concat self.now.count (row_bytes (sources_of OW self.now)) }
     {
-        let bytes = (self.count + 7) / 8;
+        let bytes = self.count.div_ceil(8);
         for k in (0..bytes).step_by(8) {
             self.copy_word(out_data, k);
         }
