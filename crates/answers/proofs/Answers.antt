@@ -8,7 +8,7 @@ use Rattle.bits.specs.Bytes.{overwrite}
 use Rattle.bits.specs.Routines.{overwrite_at}
 use Rattle.bits.specs.Numbers.{to_little_endian}
 use Rattle.bits.proofs.Bytes.{overwrite-tail}
-use Rattle.tables.specs.declared.refusal.Answer.{Answer}
+use Rattle.tables.specs.declared.answer.Answer.{Answer}
 use Rattle.answers.specs.Exported.{answer_bytes}
 
 -- blocks of 8 bytes

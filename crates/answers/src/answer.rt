@@ -4,7 +4,13 @@ ghost use Rattle.bits.specs.Bytes.{overwrite};
 ghost use Rattle.answers.specs.Exported.{answer_bytes};
 
 use bits::number::write_u64;
-use tables::refusal::Answer;
+use tables::answer::Answer;
+
+// How many bytes the answer has.
+pub const ANSWER_BYTES: usize = 32;
+
+// What a call returns whose slice for the answer is shorter: the number of refusal 7, of an output that is too short.
+pub const SHORT_ANSWER: u64 = 7;
 
 // Writes the four numbers, eight bytes each, over the first 32 bytes.
 pub fn write_answer(answer: Answer, out: &mut [u8])

@@ -5,7 +5,7 @@ use mathlib.Core.List.{List}
 use Prim.Native.Nat.{ℕ, ◌<◌}
 use native.Mathlib.Omega.{arith}
 use lib.Dec.{eqb}
-use Rattle.tables.specs.declared.refusal.Answer.{Answer}
+use Rattle.tables.specs.declared.answer.Answer.{Answer}
 use Rattle.tables.specs.declared.table.Lengths.{Lengths}
 use Rattle.tables.specs.Columns.{Column, IndexColumn}
 use Rattle.tables.specs.Answers.{passes, Line, lines_of, first_of}

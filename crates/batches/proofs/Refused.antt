@@ -3,7 +3,7 @@ use mathlib.Core.Path.{◌≡◌, refl}
 use mathlib.Core.Bool.{true, false}
 use mathlib.Core.List.{List, ◌++◌}
 use Prim.Native.Nat.{ℕ, ◌<◌}
-use Rattle.tables.specs.declared.refusal.Answer.{Answer}
+use Rattle.tables.specs.declared.answer.Answer.{Answer}
 use Rattle.tables.specs.Columns.{IndexColumn}
 use Rattle.tables.specs.Answers.{passes, Line, lines_of, first_of}
 use Rattle.tables.specs.Cases.{Refusing}

@@ -11,7 +11,7 @@ use lib.ListN.{length, drop, drop_of_length-le}
 use borrow.Author.Tests.{le-ltb}
 use Rattle.bits.specs.Sequences.{concat, sum}
 use Rattle.bits.specs.Bytes.{part, overwrite}
-use Rattle.tables.specs.declared.refusal.Answer.{Answer}
+use Rattle.tables.specs.declared.answer.Answer.{Answer}
 use Rattle.tables.specs.Columns.{IndexColumn}
 use Rattle.tables.specs.Answers.{passes, first_of}
 use Rattle.tables.specs.Rows.{Rows}

@@ -2,7 +2,7 @@
 use Rattle.std.specs.Prelude.{ℕ, ◌*◌, Bool, false, if◌then◌else◌, not, ◌||◌, List, [], ◌∷◌, ◌++◌, ◌==◌, nat_lt, length}
 use Rattle.std.specs.Borrow.{Bor}
 use Rattle.bits.specs.Sequences.{sum, any}
-use Rattle.tables.specs.declared.refusal.Answer.{Answer}
+use Rattle.tables.specs.declared.answer.Answer.{Answer}
 use Rattle.tables.specs.Columns.{Column, IndexColumn}
 use Rattle.tables.specs.Bodies.{column_in, record_bytes, described_at}
 use Rattle.tables.specs.Answers.{refuse, passes, Line, line, lines_of, first_of}

@@ -6,7 +6,8 @@ ghost use Rattle.tables.specs.Bodies.{extent, record_words, record_bytes, descri
 use bits::number::read_u64;
 use tables::table::{Description, Extent, Table};
 
-const RECORD_BYTES: usize = 104;
+// 13 words of eight bytes.
+pub const RECORD_BYTES: usize = 104;
 
 // Word j of the record that stands first.
 fn word(words: &[u8], j: usize) -> u64

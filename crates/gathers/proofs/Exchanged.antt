@@ -2,7 +2,7 @@
 -- every theorem comes to that exchanges one of them for another, of a gather and of several. Assumes nothing.
 use mathlib.Core.Path.{◌≡◌, refl}
 use mathlib.Core.Bool.{Bool, true, false, cond}
-use Rattle.tables.specs.declared.refusal.Answer.{Answer}
+use Rattle.tables.specs.declared.answer.Answer.{Answer}
 use Rattle.tables.specs.Columns.{Column, IndexColumn}
 use Rattle.tables.specs.Answers.{passes, first_of}
 use Rattle.tables.specs.Stages.{◌or_else◌, form_refusal}

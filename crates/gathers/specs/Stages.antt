@@ -1,7 +1,7 @@
 -- The stages of the tests by themselves, as the routines of the layers above answer them. `gather` goes by the whole list of refusals;
 -- proofs/Stages.antt shows that its first refusal is that of the first stage that refuses.
 use Rattle.std.specs.Prelude.{ℕ}
-use Rattle.tables.specs.declared.refusal.Answer.{Answer}
+use Rattle.tables.specs.declared.answer.Answer.{Answer}
 use Rattle.tables.specs.Columns.{IndexColumn}
 use Rattle.tables.specs.Answers.{first_of}
 use Rattle.tables.specs.Stages.{◌or_else◌}

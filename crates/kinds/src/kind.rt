@@ -1,36 +1,62 @@
 // The fields that a kind uses, its layout, and the widths that are listed. Every number may be any.
 ghost use Rattle.std.specs.Prelude.{◌≡◌};
-ghost use Rattle.tables.specs.Kinds.{fields, uses_of, layout_of, is_width, is_offset_width, is_index_width};
+ghost use Rattle.tables.specs.Kinds.{kind_of, uses_of, layout_of, is_width, is_offset_width, is_index_width};
 ghost use Rattle.tables.specs.Bounds.{RowFits};
 
 use tables::table::{Kind, Layout, Table, Uses};
 
-// By position, so that each kind is a line of five marks below, as in the definition; with the names of the fields it would be seven.
-fn fields(known: bool, width: bool, size: bool, offset_width: bool, data_bit: bool) -> Uses
-    ensures { result ≡ fields known width size offset_width data_bit }
-{
-    Uses {
-        known,
-        width,
-        size,
-        offset_width,
-        data_bit,
-    }
-}
+// A kind that uses no field.
+const KNOWN: Uses = Uses {
+    known: true,
+    width: false,
+    size: false,
+    offset_width: false,
+    data_bit: false,
+};
 
-// The paper's table of fields used: whether the kind is known, then width, size, offset width, data bit.
+// The paper's table of fields used.
 pub fn uses_of(kind: Kind) -> Uses
     ensures { result ≡ uses_of kind }
 {
     match kind {
-        Kind::Primitive => fields(true, true, false, false, false),
-        Kind::Boolean => fields(true, false, false, false, true),
-        Kind::VariableBytes => fields(true, false, false, true, false),
-        Kind::List => fields(true, true, false, true, false),
-        Kind::FixedSizeList => fields(true, true, true, false, false),
-        Kind::FixedSizeBinary => fields(true, false, true, false, false),
-        Kind::Unknown => fields(false, false, false, false, false),
+        Kind::Primitive => Uses {
+            width: true,
+            ..KNOWN
+        },
+        Kind::Boolean => Uses {
+            data_bit: true,
+            ..KNOWN
+        },
+        Kind::VariableBytes => Uses {
+            offset_width: true,
+            ..KNOWN
+        },
+        Kind::List => Uses {
+            width: true,
+            offset_width: true,
+            ..KNOWN
+        },
+        Kind::FixedSizeList => Uses {
+            width: true,
+            size: true,
+            ..KNOWN
+        },
+        Kind::FixedSizeBinary => Uses {
+            size: true,
+            ..KNOWN
+        },
+        Kind::Unknown => Uses {
+            known: false,
+            ..KNOWN
+        },
     }
+}
+
+// Those that a table uses.
+pub fn uses_at(t: Table) -> Uses
+    ensures { result ≡ uses_of (kind_of t.kind) }
+{
+    uses_of(Kind::from(t.kind))
 }
 
 // The layout of a kind. Only the row of a list of fixed size is a product.
@@ -47,6 +73,14 @@ pub fn layout_of(kind: Kind, t: Table) -> Layout
         Kind::FixedSizeBinary => Layout::FixedWidth(t.size),
         Kind::Unknown => Layout::FixedWidth(0),
     }
+}
+
+// That of a table.
+pub fn layout_at(t: Table) -> Layout
+    requires { RowFits (kind_of t.kind) t }
+    ensures { result ≡ layout_of (kind_of t.kind) t.width t.size }
+{
+    layout_of(Kind::from(t.kind), t)
 }
 
 pub fn is_width(w: u64) -> bool

@@ -11,7 +11,7 @@ use Rattle.bits.specs.Sequences.{first}
 use Rattle.bits.specs.Numbers.{number_at}
 use Rattle.tables.specs.declared.table.Layout.{Layout}
 use Rattle.tables.specs.declared.table.Layout.TheVariants.{FixedWidth, BitMap, VariableWidth}
-use Rattle.tables.specs.declared.refusal.Answer.{Answer}
+use Rattle.tables.specs.declared.answer.Answer.{Answer}
 use Rattle.tables.specs.Columns.{Column, layout_at}
 use Rattle.tables.specs.Answers.{refuse, accept}
 use Rattle.tables.specs.Refusals.{is_bad}

@@ -1,6 +1,6 @@
 -- Worked examples of the range scan: the refusal and how many indices are looked at, at the row counts about those that a width can hold.
 use Rattle.std.specs.Prelude.{ℕ, ◌-◌, ◌+◌, ◌^◌, List, [], ◌∷◌, ◌++◌}
-use Rattle.tables.specs.declared.refusal.Answer.{Answer}
+use Rattle.tables.specs.declared.answer.Answer.{Answer}
 use Rattle.tables.specs.Columns.{IndexColumn}
 use Rattle.tables.specs.Answers.{accept, refuse}
 use Rattle.gathers.specs.Stages.{range_refusal}

@@ -5,7 +5,7 @@ use Rattle.tables.specs.declared.table.Table.{Table}
 use Rattle.tables.specs.declared.table.Indices.{Indices}
 use Rattle.tables.specs.declared.table.Lengths.{Lengths}
 use Rattle.tables.specs.declared.table.IndexLengths.{IndexLengths}
-use Rattle.tables.specs.declared.refusal.Answer.{Answer}
+use Rattle.tables.specs.declared.answer.Answer.{Answer}
 use Rattle.tables.specs.declared.refusal.Refusal.{Refusal}
 use Rattle.tables.specs.Kinds.{kind_of, layout_of}
 use Rattle.tables.specs.Columns.{Column, IndexColumn, lengths_of, index_lengths_of, kind_at, layout_at}

@@ -40,8 +40,8 @@ pub struct IndexColumn<'a> {
     pub validity: &'a [u8],
 }
 
-impl IndexColumn<'_> {
-    ghost use Rattle.tables.specs.Columns.{index_column_of, index_lengths_of};
+impl<'a> IndexColumn<'a> {
+    ghost use Rattle.tables.specs.Columns.{index_column_of, index_lengths_of, no_indices};
 
     pub fn lengths(&self) -> IndexLengths
         ensures { result ≡ index_lengths_of (index_column_of self.now) }
@@ -49,6 +49,21 @@ impl IndexColumn<'_> {
         IndexLengths {
             data: self.data.len() as u64,
             validity: self.validity.len() as u64,
+        }
+    }
+
+    // One that names no row: with it a column is tested by itself.
+    pub fn none() -> IndexColumn<'a>
+        ensures { index_column_of result ≡ no_indices }
+    {
+        IndexColumn {
+            indices: Indices {
+                width: 1,
+                count: 0,
+                validity_bit: 0,
+            },
+            data: b"",
+            validity: b"",
         }
     }
 }

@@ -1,6 +1,6 @@
 -- The numbers of what the measuring stage answers, and what refusal 6 goes by.
 use Rattle.std.specs.Prelude.{ℕ, if◌then◌else◌, ◌==◌, Result, Ok, Err}
-use Rattle.tables.specs.declared.refusal.Answer.{Answer}
+use Rattle.tables.specs.declared.answer.Answer.{Answer}
 use Rattle.tables.specs.declared.refusal.Refusal.{Refusal}
 use Rattle.tables.specs.Answers.{refuse, refusal_numbers}
 
