@@ -10,7 +10,7 @@ use Rattle.gathers.specs.Stored.{Output, store_joined}
 use Rattle.gathers.specs.Gather.{Outcome}
 use Rattle.batches.specs.Batch.{Batch, taken_from, arrays_refusals, gather_arrays}
 use Rattle.batches.specs.Passed.{Passed}
-use Rattle.entries.specs.declared.answer.Gathered.{Gathered}
+use Rattle.tables.specs.declared.answer.Gathered.{Gathered}
 use Rattle.arrays.specs.Told.{written_of}
 use Rattle.arrays.specs.Entry.{GathersArrays}
 use Rattle.tables.proofs.Stages.{refusing}

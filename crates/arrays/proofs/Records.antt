@@ -11,12 +11,17 @@ use Rattle.tables.specs.Bodies.{record_bytes, described_at}
 use Rattle.tables.specs.Answers.{refuse, accept, first_of}
 use Rattle.batches.specs.Batch.{max_columns, batch_in, rows_differ, batch_lines}
 use Rattle.arrays.specs.Told.{records_differ}
-use Rattle.bits.proofs.Sequences.{any-cong}
+use Rattle.bits.proofs.Sequences.{any-cong, any_at}
 use Rattle.tables.proofs.Bodies.{column-table}
 
 -- record i states another number of rows
 abbrev pub differs : List ℕ → ℕ → ℕ → Bool
 differs s rows i = not (eqb (described_at s i).table.rows rows)
+
+pub differ-at : (n : ℕ) (s : List ℕ) (i : ℕ) → i < n → {a b : ℕ} → a ≡ (described_at s i).table.rows → b ≡ (described_at s 0).table.rows → (a ≡ b → ⊥)
+    → records_differ n s ≡ true
+differ-at n s i h {a} {b} ae be d =
+    any_at n (λ i. not (eqb (described_at s i).table.rows (described_at s 0).table.rows)) i h (rw (sym ae, sym be, ne_eqb a b d))
 
 module _ (n : ℕ) (s body : List ℕ) where
   differ-by-records : rows_differ (batch_in n s body) ≡ records_differ n s

@@ -11,7 +11,7 @@ use Rattle.tables.specs.Rows.{Rows}
 use Rattle.gathers.specs.Stored.{data_length, null_count, joined_lengths}
 use Rattle.gathers.specs.Gather.{through_lines}
 use Rattle.batches.specs.Batch.{Batch, batch_at, taken_from}
-use Rattle.entries.specs.declared.answer.Gathered.{Gathered}
+use Rattle.tables.specs.declared.answer.Gathered.{Gathered}
 use Rattle.arrays.specs.declared.batch.Batch.{Batch as LentBatch}
 
 -- several columns as they are lent to a function

@@ -7,7 +7,7 @@ ghost use Rattle.tables.specs.Stages.{checked_numbers};
 ghost use Rattle.batches.specs.Batch.{batch_in, batch_lines};
 ghost use Rattle.arrays.specs.Told.{records_differ};
 
-use descriptions::record::rows_at;
+use descriptions::record::{RECORD_BYTES, rows_at};
 use tables::refusal::Refusal;
 
 // So many columns, a record of each, and the body that their buffers lie in.
@@ -20,19 +20,18 @@ pub struct Batch<'a> {
 
 const MAX_COLUMNS: u64 = 32;
 
-const RECORD_BYTES: u64 = 104;
-
 fn rows_differ(columns: usize, descriptions: &[u8]) -> bool
     requires some_columns { 0 < columns }
     requires records_there { columns * record_bytes ≤ length descriptions.now }
     ensures { result ≡ records_differ columns descriptions.now }
 {
     let rows = rows_at(descriptions, 0);
-    let mut differ = false;
     for i in 0..columns {
-        differ = differ | (rows_at(descriptions, i) != rows);
+        if rows_at(descriptions, i) != rows {
+            return true;
+        }
     }
-    differ
+    false
 }
 
 // What lies in the body is not looked at.
@@ -48,7 +47,7 @@ pub fn check_batch(batch: &Batch<'_>) -> Result<(), Refusal>
     if columns > MAX_COLUMNS {
         return Err(Refusal::Limit);
     }
-    if (descriptions.len() as u64) < columns * RECORD_BYTES {
+    if (descriptions.len() as u64) < columns * RECORD_BYTES as u64 {
         return Err(Refusal::Short);
     }
     if rows_differ(columns as usize, descriptions) {

@@ -1,20 +1,39 @@
 // The tests of a batch, in their order, before any output byte is written: those of the batch, the columns one by one through overflow, and space over
 // the joined lengths.
-ghost use Rattle.std.specs.Prelude.{◌≡◌, true};
+ghost use Rattle.std.specs.Prelude.{◌≡◌, true, false};
 ghost use Rattle.tables.specs.Columns.{index_column_of};
+ghost use Rattle.tables.specs.Bodies.{column_in};
 ghost use Rattle.tables.specs.Answers.{passes, first_of};
 ghost use Rattle.tables.specs.Stages.{checked_numbers};
+ghost use Rattle.gathers.specs.Ready.{InRange};
 ghost use Rattle.gathers.specs.Stored.{output_of};
+ghost use Rattle.described.specs.Told.{through_range};
 ghost use Rattle.batches.specs.Batch.{batch_lines, arrays_refusals};
 ghost use Rattle.arrays.specs.Told.{batch_of, AllToldOf};
 
 use crate::batch::{Batch, check_batch};
-use described::in_body::check_described;
+use described::in_body::{check_described, measure_described};
 use descriptions::record::describe;
 use stages::space::check_space;
 use tables::column::{IndexColumn, Output};
 use tables::refusal::Refusal;
-use tables::table::Lengths;
+use tables::table::{Description, Lengths};
+
+// Refusals 1 to 5 of a column. The indices are tested with the first one: those after it have as many rows.
+fn check_next(
+    first: bool,
+    d: Description,
+    body: &[u8],
+    indices: &IndexColumn<'_>,
+) -> Result<(), Refusal>
+    requires { first ≡ false → InRange (column_in body.now d).table.rows (index_column_of indices.now) }
+    ensures { checked_numbers result ≡ through_range (column_in body.now d) (index_column_of indices.now) }
+{
+    if first {
+        return check_described(d, body, indices);
+    }
+    check_described(d, body, &IndexColumn::none())
+}
 
 // The columns one by one, each through overflow, and what they need together.
 fn check_columns(batch: &Batch<'_>, indices: &IndexColumn<'_>) -> Result<Lengths, Refusal>
@@ -22,21 +41,13 @@ fn check_columns(batch: &Batch<'_>, indices: &IndexColumn<'_>) -> Result<Lengths
     ensures { AllToldOf (batch_of batch.now) (index_column_of indices.now) result }
 {
     let columns = batch.columns as usize;
-    let mut validity: u64 = 0;
-    let mut offsets: u64 = 0;
-    let mut data: u64 = 0;
+    let mut joined = Lengths::none();
     for i in 0..columns {
         let d = describe(batch.descriptions, i);
-        let needed = check_described(d, batch.body, indices, i == 0)?;
-        validity += needed.validity;
-        offsets += needed.offsets;
-        data += needed.data;
+        check_next(i == 0, d, batch.body, indices)?;
+        joined = joined.plus(measure_described(d, batch.body, indices)?);
     }
-    Ok(Lengths {
-        data,
-        offsets,
-        validity,
-    })
+    Ok(joined)
 }
 
 // Of the outputs only the lengths are looked at.

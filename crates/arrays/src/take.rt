@@ -4,14 +4,14 @@ ghost use Rattle.tables.specs.Columns.{index_column_of};
 ghost use Rattle.gathers.specs.Stored.{output_of, output_left};
 ghost use Rattle.gathers.specs.Gather.{outcome};
 ghost use Rattle.batches.specs.Batch.{gather_arrays};
-ghost use Rattle.entries.specs.Answered.{answered_numbers};
+ghost use Rattle.tables.specs.Answers.{answered_numbers};
 ghost use Rattle.arrays.specs.Entry.{GathersArrays};
 ghost use Rattle.arrays.specs.Told.{batch_of};
 
 use crate::batch::Batch;
 use crate::check::check;
 use crate::write::write;
-use entries::answer::Gathered;
+use tables::answer::Gathered;
 use tables::column::{IndexColumn, Output};
 use tables::refusal::Refusal;
 
@@ -22,14 +22,15 @@ pub fn take_arrays(
 ) -> Result<Gathered, Refusal>
     ensures { GathersArrays gather_arrays (batch_of batch.now) (index_column_of indices.now) (output_of out.entry) (outcome (answered_numbers result) (output_left out.exit)) }
 {
-    // opened by an else that writes, as in `entries::take`
-    let Err(refusal) = check(batch, indices, &out) else {
-        let Output {
-            validity,
-            offsets,
-            data,
-        } = out;
-        return Ok(write(batch, indices, validity, offsets, data));
-    };
-    Err(refusal)
+    match check(batch, indices, &out) {
+        Ok(()) => {
+            let Output {
+                validity,
+                offsets,
+                data,
+            } = out;
+            Ok(write(batch, indices, validity, offsets, data))
+        }
+        Err(refusal) => Err(refusal),
+    }
 }

@@ -9,8 +9,9 @@ ghost use Rattle.arrays.specs.Told.{batch_of, written_of};
 use crate::batch::Batch;
 use described::in_body::take_described;
 use descriptions::record::describe;
-use entries::answer::Gathered;
+use tables::answer::Gathered;
 use tables::column::IndexColumn;
+use tables::table::Lengths;
 
 pub fn write(
     batch: &Batch<'_>,
@@ -25,9 +26,7 @@ pub fn write(
         ≡ store_joined batch.now.columns (taken_from (batch_of batch.now) (index_column_of indices.now)) (output_at out_validity.old out_offsets.old out_data.old) }
 {
     let columns = batch.columns as usize;
-    let mut validity: usize = 0;
-    let mut offsets: usize = 0;
-    let mut data: usize = 0;
+    let mut written = Lengths::none();
     let mut nulls: u64 = 0;
     for i in 0..columns {
         let d = describe(batch.descriptions, i);
@@ -35,18 +34,15 @@ pub fn write(
             d,
             batch.body,
             indices,
-            &mut out_validity[validity..],
-            &mut out_offsets[offsets..],
-            &mut out_data[data..],
+            &mut out_validity[written.validity as usize..],
+            &mut out_offsets[written.offsets as usize..],
+            &mut out_data[written.data as usize..],
         );
-        let needed = taken.needed;
-        validity += needed.validity as usize;
-        offsets += needed.offsets as usize;
-        data += needed.data as usize;
+        written = written.plus(taken.needed);
         nulls += taken.nulls;
     }
     Gathered {
-        total: data as u64,
+        total: written.data,
         nulls,
     }
 }

@@ -5,23 +5,15 @@ ghost use Rattle.tables.specs.Stages.{checked_numbers, form_refusal};
 ghost use Rattle.tables.specs.Refusals.{column_refusal};
 
 use offsets::check::check_offsets;
-use sizes::check::check_sizes;
+use sizes::check::check_lent;
 use tables::column::{Column, IndexColumn};
 use tables::refusal::Refusal;
-use tables::table::Indices;
 
 pub fn check_columns(column: &Column<'_>, indices: &IndexColumn<'_>) -> Result<(), Refusal>
     ensures { checked_numbers result ≡ form_refusal (column_of column.now) (index_column_of indices.now) }
 {
-    let sizes = check_sizes(
-        column.table,
-        false,
-        column.lengths(),
-        indices.indices,
-        indices.lengths(),
-    );
     // by `let .. else`, the form that document 01 names for a refusal which is passed up
-    let Err(refusal) = sizes else {
+    let Err(refusal) = check_lent(column, indices) else {
         return check_offsets(column);
     };
     Err(refusal)
@@ -31,14 +23,5 @@ pub fn check_columns(column: &Column<'_>, indices: &IndexColumn<'_>) -> Result<(
 pub fn check_table(column: &Column<'_>) -> Result<(), Refusal>
     ensures { checked_numbers result ≡ column_refusal (column_of column.now) }
 {
-    let none = IndexColumn {
-        indices: Indices {
-            width: 1,
-            count: 0,
-            validity_bit: 0,
-        },
-        data: b"",
-        validity: b"",
-    };
-    check_columns(column, &none)
+    check_columns(column, &IndexColumn::none())
 }

@@ -1,13 +1,13 @@
 -- What the tests and the writing of one column tell (specs/Told.antt, specs/Taken.antt), by what the stages below answer. Assumes nothing.
 use mathlib.Core.Path.{◌≡◌, sym, ap, ◌∙◌, subst}
-use mathlib.Core.Bool.{Bool, true, false}
+use mathlib.Core.Bool.{true, false}
 use mathlib.Core.List.{List}
 use Prim.Native.Nat.{ℕ, ◌*◌, ◌≤◌}
 use native.Mathlib.Omega.{arith}
 use lib.ListN.{length}
 use Rattle.bits.specs.Bytes.{overwrite}
 use Rattle.bits.specs.Numbers.{number_at}
-use Rattle.tables.specs.declared.refusal.Answer.{Answer}
+use Rattle.tables.specs.declared.answer.Answer.{Answer}
 use Rattle.tables.specs.declared.refusal.Refusal.{Refusal}
 use Rattle.tables.specs.Stages.{Checked}
 use Rattle.std.specs.Prelude.{Result, Ok, Err}
@@ -17,19 +17,19 @@ use Rattle.tables.specs.declared.table.Lengths.{Lengths}
 use Rattle.tables.specs.Kinds.{kind_of, layout_of}
 use Rattle.tables.specs.Columns.{Column, IndexColumn, layout_at}
 use Rattle.tables.specs.Answers.{passes}
-use Rattle.tables.specs.Stages.{checked_numbers, ◌or_else◌, offsets_refusal}
+use Rattle.tables.specs.Stages.{checked_numbers, offsets_refusal}
 use Rattle.tables.specs.Rows.{Rows, rows_of}
 use Rattle.gathers.specs.Taken.{take_rows}
 use Rattle.gathers.specs.Stored.{Output, validity_bytes, written_offsets, data_bytes, offset_length, data_length, null_count, store_offsets, store}
-use Rattle.gathers.specs.Stages.{range_refusal, overflow_refusal, measured}
+use Rattle.gathers.specs.Stages.{range_refusal, measured}
 use Rattle.gathers.specs.Ready.{Ready, NoOverflow, HasRoom}
 use Rattle.variable.specs.Measured.{measured_numbers}
 use Rattle.stages.specs.Space.{lengths_for}
-use Rattle.described.specs.Told.{SizesPassed, RestToldOf}
+use Rattle.described.specs.Told.{rows_refusal, MeasuredOf}
 use Rattle.described.specs.Taken.{taken_of, HasRoomFor, data_in, OffsetsIn}
 use Rattle.bits.proofs.Bytes.{length-overwrite}
 use Rattle.tables.proofs.Bounds.{offset-number-width}
-use Rattle.tables.proofs.Stages.{refusing, sized-well-formed}
+use Rattle.tables.proofs.Stages.{refusing}
 use Rattle.gathers.proofs.Stages.{measured-refused, measured-total, stored-by}
 use Rattle.gathers.proofs.Lengths.{blocks-length, bits-length}
 use Rattle.gathers.proofs.Regular.{length-written}
@@ -53,34 +53,23 @@ module _ (c : Column) (x : IndexColumn) where
   abbrev found : ℕ → Lengths
   found total = lengths_for (layout_of (kind_of c.table.kind) c.table.width c.table.size) c.table.offset_width x.indices.count total
 
-  -- ---- the tests that are left after refusals 1 to 3
+  -- ---- refusals 4 and 5
 
-  abbrev rest : Answer
-  rest = offsets_refusal c or_else range_refusal c.table.rows x or_else overflow_refusal v
+  module _ {s : Checked} (e : checked_numbers s ≡ offsets_refusal c) where
+    pub offsets-stopped : {r : Refusal} → s ≡ Err r → checked_numbers s ≡ rows_refusal c x
+    offsets-stopped {r} f = rw (sym e, f, refusing r)
 
-  module _ {first : Bool} (p : SizesPassed first c x) {s : Checked} (se : checked_numbers s ≡ offsets_refusal c) (sf : s ≡ Ok tt) where
-    good : passes (offsets_refusal c) ≡ true
-    good = lets-pass se sf
+    pub offsets-passed : s ≡ Ok tt → {a : Answer} → a ≡ range_refusal c.table.rows x → a ≡ rows_refusal c x
+    offsets-passed f d = rw (sym e, f) d
 
-    module _ {t : Checked} (te : checked_numbers t ≡ range_refusal c.table.rows x) (tf : t ≡ Ok tt) where
-      range : passes (range_refusal c.table.rows x) ≡ true
-      range = lets-pass te tf
+  -- ---- refusal 6
 
-      pub rest-ready : Ready c x
-      rest-ready = record { column = sized-well-formed c p.sized good; indices = record { passed = p.indices; range = range } }
+  module _ {m : Result ℕ Refusal} (e : measured_numbers m ≡ measured v) where
+    pub measure-stopped : {r : Refusal} → m ≡ Err r → MeasuredOf c x (Err r)
+    measure-stopped {r} f = let d = sym (ap measured_numbers f) ∙ e in (d ∙ (measured-refused v (rw (sym d) (refusing r))).1, tt)
 
-      by-overflow : overflow_refusal v ≡ rest
-      by-overflow = rw (good, range)
-
-      pub measure-stopped : {m : Result ℕ Refusal} {r : Refusal} → measured_numbers m ≡ measured v → m ≡ Err r → RestToldOf c x (Err r)
-      measure-stopped {r = r} e f =
-          let d = sym (ap measured_numbers f) ∙ e in
-          (d ∙ (measured-refused v (rw (sym d) (refusing r))).1 ∙ by-overflow, tt)
-
-      pub rest-told : {m : Result ℕ Refusal} {total : ℕ} {n : Lengths} → measured_numbers m ≡ measured v → m ≡ Ok total → n ≡ found total → RestToldOf c x (Ok n)
-      rest-told e f h =
-          let t = measured-total v (sym (ap measured_numbers f) ∙ e) in
-          (sym (overflow-accepts v t.0) ∙ by-overflow, h ∙ needed-told c x t.1)
+    pub measure-passed : {total : ℕ} {n : Lengths} → m ≡ Ok total → n ≡ found total → MeasuredOf c x (Ok n)
+    measure-passed f h = let t = measured-total v (sym (ap measured_numbers f) ∙ e) in (sym (overflow-accepts v t.0), h ∙ needed-told c x t.1)
 
   -- ---- the writing
 

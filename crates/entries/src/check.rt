@@ -7,8 +7,8 @@ ghost use Rattle.tables.specs.Stages.{checked_numbers};
 ghost use Rattle.gathers.specs.Stored.{output_of};
 ghost use Rattle.gathers.specs.Gather.{refusals};
 
-use described::column::check_column;
-use sizes::check::check_sizes;
+use described::column::{check_column, measure_column};
+use sizes::check::check_lent;
 use stages::space::check_space;
 use tables::column::{Column, IndexColumn, Output};
 use tables::refusal::Refusal;
@@ -21,9 +21,8 @@ pub fn check(
 ) -> Result<(), Refusal>
     ensures { checked_numbers result ≡ first_of (refusals (column_of column.now) (index_column_of indices.now) (output_of out.now)) }
 {
-    let lengths = column.lengths();
-    let index_lengths = indices.lengths();
-    check_sizes(column.table, false, lengths, indices.indices, index_lengths)?;
-    let needed = check_column(column, indices, true)?;
+    check_lent(column, indices)?;
+    check_column(column, indices)?;
+    let needed = measure_column(column, indices)?;
     check_space(needed, out.lengths())
 }

@@ -3,12 +3,12 @@
 ghost use Rattle.tables.specs.Columns.{column_of, index_column_of};
 ghost use Rattle.gathers.specs.Stored.{output_of, output_left};
 ghost use Rattle.gathers.specs.Gather.{outcome, gather};
-ghost use Rattle.entries.specs.Answered.{answered_numbers};
+ghost use Rattle.tables.specs.Answers.{answered_numbers};
 ghost use Rattle.entries.specs.Entry.{Gathers};
 
-use crate::answer::Gathered;
 use crate::check::check;
 use described::column::take_column;
+use tables::answer::Gathered;
 use tables::column::{Column, IndexColumn, Output};
 use tables::refusal::Refusal;
 
@@ -19,19 +19,19 @@ pub fn take(
 ) -> Result<Gathered, Refusal>
     ensures { Gathers gather (column_of column.now) (index_column_of indices.now) (output_of out.entry) (outcome (answered_numbers result) (output_left out.exit)) }
 {
-    // opened by an else that writes, and not by a question mark: what stands after an early return is taken for cold
-    let Err(refusal) = check(column, indices, &out) else {
-        let Output {
-            validity,
-            offsets,
-            data,
-        } = out;
-        let taken = take_column(column, indices, validity, offsets, data);
-        let needed = taken.needed;
-        return Ok(Gathered {
-            total: needed.data,
-            nulls: taken.nulls,
-        });
-    };
-    Err(refusal)
+    match check(column, indices, &out) {
+        Ok(()) => {
+            let Output {
+                validity,
+                offsets,
+                data,
+            } = out;
+            let taken = take_column(column, indices, validity, offsets, data);
+            Ok(Gathered {
+                total: taken.needed.data,
+                nulls: taken.nulls,
+            })
+        }
+        Err(refusal) => Err(refusal),
+    }
 }

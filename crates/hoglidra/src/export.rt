@@ -6,9 +6,9 @@ ghost use Rattle.gathers.specs.Gather.{gather};
 ghost use Rattle.entries.specs.Entry.{Gathers};
 ghost use Rattle.answers.specs.Exported.{left, exported};
 
-use answers::answer::write_answer;
-use entries::answer::answered_numbers;
+use answers::answer::{ANSWER_BYTES, SHORT_ANSWER, write_answer};
 use entries::take::take;
+use tables::answer::Answer;
 use tables::column::{Column, IndexColumn, Output};
 use tables::table::{Indices, Table};
 
@@ -39,8 +39,8 @@ pub fn hoglidra_take(
         (output_at out_validity.old out_offsets.old out_data.old)
         (left result answer.new (output_at out_validity.new out_offsets.new out_data.new)) }
 {
-    if answer.len() < 32 {
-        return 7;
+    if answer.len() < ANSWER_BYTES {
+        return SHORT_ANSWER;
     }
     let table = Table {
         kind,
@@ -75,7 +75,7 @@ pub fn hoglidra_take(
             data: out_data,
         },
     );
-    let numbers = answered_numbers(answered);
+    let numbers = Answer::from(answered);
     write_answer(numbers, answer);
     numbers.number
 }

@@ -4,7 +4,7 @@ use mathlib.Core.List.{List}
 use Prim.Native.Nat.{ℕ, ◌≤◌, ◌<◌}
 use lib.ListN.{length}
 use Rattle.bits.specs.Bytes.{overwrite}
-use Rattle.tables.specs.declared.refusal.Answer.{Answer}
+use Rattle.tables.specs.declared.answer.Answer.{Answer}
 use Rattle.tables.specs.Columns.{IndexColumn}
 use Rattle.gathers.specs.Stored.{Output}
 use Rattle.batches.specs.Batch.{Batch, gather_arrays}

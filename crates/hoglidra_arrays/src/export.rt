@@ -5,10 +5,10 @@ ghost use Rattle.batches.specs.Batch.{batch_at, gather_arrays};
 ghost use Rattle.arrays.specs.Entry.{GathersArrays};
 ghost use Rattle.answers.specs.Exported.{left, exported};
 
-use answers::answer::write_answer;
+use answers::answer::{ANSWER_BYTES, SHORT_ANSWER, write_answer};
 use arrays::batch::Batch;
 use arrays::take::take_arrays;
-use entries::answer::answered_numbers;
+use tables::answer::Answer;
 use tables::column::{IndexColumn, Output};
 use tables::table::Indices;
 
@@ -32,8 +32,8 @@ pub fn hoglidra_take_arrays(
         (output_at out_validity.old out_offsets.old out_data.old)
         (left result answer.new (output_at out_validity.new out_offsets.new out_data.new)) }
 {
-    if answer.len() < 32 {
-        return 7;
+    if answer.len() < ANSWER_BYTES {
+        return SHORT_ANSWER;
     }
     let batch = Batch {
         columns,
@@ -58,7 +58,7 @@ pub fn hoglidra_take_arrays(
             data: out_data,
         },
     );
-    let numbers = answered_numbers(answered);
+    let numbers = Answer::from(answered);
     write_answer(numbers, answer);
     numbers.number
 }

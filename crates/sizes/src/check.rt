@@ -2,11 +2,14 @@
 // after the tests that bound them.
 ghost use Rattle.std.specs.Prelude.{◌≡◌, false, ◌+◌, ◌≤◌};
 ghost use Rattle.bits.specs.Bits.{bytes_for};
-ghost use Rattle.tables.specs.Stages.{checked_numbers, stated_refusal};
-ghost use Rattle.tables.specs.Refusals.{max_rows, max_bit, bad_kind, used_over_limit, validity_over_limit, over_limit, data_short, validity_short, too_short, index_over_limit, index_too_short};
+ghost use Rattle.tables.specs.Columns.{column_of, index_column_of};
+ghost use Rattle.tables.specs.Stages.{checked_numbers, stated_refusal, sizes_refusal};
+ghost use Rattle.tables.specs.Refusals.{max_rows, max_bit, bad_kind, used_over_limit, validity_over_limit, over_limit};
+ghost use Rattle.tables.specs.Refusals.{data_short, validity_short, too_short, index_over_limit, index_too_short};
 ghost use Rattle.tables.specs.Bounds.{Bounds, IndexBounds};
 
 use kinds::kind::{is_index_width, is_offset_width, is_width, layout_of, uses_of};
+use tables::column::{Column, IndexColumn};
 use tables::refusal::Refusal;
 use tables::table::{IndexLengths, Indices, Kind, Layout, Lengths, Table};
 
@@ -117,4 +120,17 @@ pub fn check_sizes(
         return Err(Refusal::Short);
     }
     Ok(())
+}
+
+// Those of a column and an index column as they are lent.
+pub fn check_lent(column: &Column<'_>, indices: &IndexColumn<'_>) -> Result<(), Refusal>
+    ensures { checked_numbers result ≡ sizes_refusal (column_of column.now) (index_column_of indices.now) }
+{
+    check_sizes(
+        column.table,
+        false,
+        column.lengths(),
+        indices.indices,
+        indices.lengths(),
+    )
 }

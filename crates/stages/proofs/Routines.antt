@@ -12,9 +12,9 @@ use Rattle.bits.specs.Sequences.{concat, sum}
 use Rattle.bits.specs.Bytes.{part, overwrite}
 use Rattle.bits.specs.Bits.{bit_value, bytes_for, pack, is_absent, valid_at}
 use Rattle.tables.specs.declared.table.Kind.{Kind}
-use Rattle.tables.specs.declared.table.Kind.TheVariants.{Primitive, Boolean, VariableBytes, List as ListKind, FixedSizeList, FixedSizeBinary, Unknown}
+use Rattle.tables.specs.declared.table.Kind.TheVariants.{Unknown}
 use Rattle.tables.specs.declared.table.Layout.TheVariants.{FixedWidth, BitMap}
-use Rattle.tables.specs.Kinds.{kind_of, layout_of}
+use Rattle.tables.specs.Kinds.{kind_of}
 use Rattle.tables.specs.Columns.{Column, IndexColumn, kind_at, layout_at, index}
 use Rattle.tables.specs.Refusals.{max_rows, max_bytes, max_bit, WellFormed}
 use Rattle.tables.specs.Bounds.{max_block, RowFits, Bounds}
@@ -30,35 +30,13 @@ use Rattle.bits.proofs.Bytes.{block_inside}
 use Rattle.tables.proofs.Bounds.{fits-at}
 use Rattle.tables.proofs.Facts.{Formed, formed, IndexFormed, index-formed}
 use Rattle.tables.proofs.Stages.{sized-row-fits, sized-bounds, well-formed-sized}
-use Rattle.tables.proofs.Views.{kind_at-number, layout_at-kind}
+use Rattle.tables.proofs.Views.{kind_at-number}
 use Rattle.gathers.proofs.Buffers.{valid-below, validity-by-buffer, nulls-by-buffer, blocks-by-buffer, bits-by-buffer, picks_by, picks-in-range, picks-written, picks-mask}
 use Rattle.gathers.proofs.Lengths.{blocks-length, bits-length}
 
--- the kind that is left after the first five, where it is known
-last-kind : (k : Kind) → (k ≡ Unknown → ⊥) → (k ≡ Primitive → ⊥) → (k ≡ Boolean → ⊥) → (k ≡ VariableBytes → ⊥) → (k ≡ ListKind → ⊥)
-    → (k ≡ FixedSizeList → ⊥) → k ≡ FixedSizeBinary
-last-kind Primitive u p b v l f = absurd (p refl)
-last-kind Boolean u p b v l f = absurd (b refl)
-last-kind VariableBytes u p b v l f = absurd (v refl)
-last-kind ListKind u p b v l f = absurd (l refl)
-last-kind FixedSizeList u p b v l f = absurd (f refl)
-last-kind FixedSizeBinary u p b v l f = refl
-last-kind Unknown u p b v l f = absurd (u refl)
-
--- the kind and the layout, as the code finds them
-module _ (c : Column) where
-  kind-told : {k m : Kind} → k ≡ kind_of c.table.kind → k ≡ m → kind_at c ≡ m
-  kind-told e d = kind_at-number c ∙ sym e ∙ d
-
-  pub layout-by : {k : Kind} → kind_at c ≡ k → layout_at c ≡ layout_of k c.table.width c.table.size
-  layout-by e = rw (layout_at-kind c, e)
-
-  known : WellFormed c → kind_at c ≡ Unknown → ⊥
-  known w e = true≢false (rw e at (formed c w).good_kind)
-
-  pub sixth : WellFormed c → {k : Kind} → k ≡ kind_of c.table.kind → (k ≡ Primitive → ⊥) → (k ≡ Boolean → ⊥) → (k ≡ VariableBytes → ⊥)
-      → (k ≡ ListKind → ⊥) → (k ≡ FixedSizeList → ⊥) → kind_at c ≡ FixedSizeBinary
-  sixth w {k} e p b v l f = kind-told e (last-kind k (λ u. known w (kind-told e u)) p b v l f)
+-- refusal 1 let pass, so the kind is known
+pub unknown-refused : (c : Column) → WellFormed c → Unknown ≡ kind_of c.table.kind → ⊥
+unknown-refused c w e = true≢false (rw (kind_at-number c ∙ sym e) at (formed c w).good_kind)
 
 -- the room that bits need
 pub bits-room : (c : Column) (x : IndexColumn) → layout_at c ≡ BitMap → {room : ℕ} → data_length (layout_at c) (take_rows (rows_of c) x) ≤ room

@@ -1,7 +1,7 @@
 -- Refusal 7 by the lengths of the outputs: the bytes that they need and the bytes that are lent.
 use Rattle.std.specs.Prelude.{ℕ, suc, ◌*◌}
 use Rattle.bits.specs.Bits.{bytes_for}
-use Rattle.tables.specs.declared.refusal.Answer.{Answer}
+use Rattle.tables.specs.declared.answer.Answer.{Answer}
 use Rattle.tables.specs.declared.table.Layout.{Layout}
 use Rattle.tables.specs.declared.table.Layout.TheVariants.{FixedWidth, BitMap, VariableWidth}
 use Rattle.tables.specs.Answers.{first_of}

@@ -6,10 +6,10 @@ ghost use Rattle.gathers.specs.Stages.{measured};
 ghost use Rattle.gathers.specs.Ready.{Ready};
 ghost use Rattle.variable.specs.Measured.{measured_numbers};
 
-use kinds::kind::layout_of;
+use kinds::kind::layout_at;
 use tables::column::{Column, IndexColumn};
 use tables::refusal::Refusal;
-use tables::table::{Kind, Layout};
+use tables::table::Layout;
 use variable::total::measure_variable;
 
 pub fn measure(column: &Column<'_>, indices: &IndexColumn<'_>) -> Result<u64, Refusal>
@@ -17,11 +17,9 @@ pub fn measure(column: &Column<'_>, indices: &IndexColumn<'_>) -> Result<u64, Re
     ensures { measured_numbers result ≡ measured (taken (column_of column.now) (index_column_of indices.now)) }
 {
     let count = indices.indices.count;
-    let kind = Kind::from(column.table.kind);
-    let layout = layout_of(kind, column.table);
-    match layout {
+    match layout_at(column.table) {
         Layout::FixedWidth(n) => Ok(count * n),
-        Layout::BitMap => Ok((count + 7) / 8),
+        Layout::BitMap => Ok(count.div_ceil(8)),
         Layout::VariableWidth(unit) => measure_variable(column, indices, unit),
     }
 }

@@ -6,9 +6,9 @@ ghost use Rattle.tables.specs.Refusals.{max_rows};
 ghost use Rattle.tables.specs.Bounds.{RowFits, Bounds};
 ghost use Rattle.stages.specs.Space.{offset_bytes_for, lengths_for, lengths_refusal};
 
-use kinds::kind::layout_of;
-use tables::refusal::Refusal;
-use tables::table::{Kind, Layout, Lengths, Table};
+use kinds::kind::layout_at;
+use tables::refusal::{OutputBuffer, Refusal};
+use tables::table::{Layout, Lengths, Table};
 
 fn offset_length(layout: Layout, table: Table, count: u64) -> u64
     requires bounds { Bounds layout table }
@@ -16,8 +16,7 @@ fn offset_length(layout: Layout, table: Table, count: u64) -> u64
     ensures { result ≡ offset_bytes_for layout table.offset_width count }
 {
     match layout {
-        Layout::FixedWidth(_) => 0,
-        Layout::BitMap => 0,
+        Layout::FixedWidth(_) | Layout::BitMap => 0,
         Layout::VariableWidth(_) => (count + 1) * table.offset_width,
     }
 }
@@ -29,35 +28,33 @@ pub fn needed_lengths(table: Table, count: u64, data: u64) -> Lengths
     requires few { count ≤ max_rows }
     ensures { result ≡ lengths_for (layout_of (kind_of table.kind) table.width table.size) table.offset_width count «data» }
 {
-    let kind = Kind::from(table.kind);
-    let layout = layout_of(kind, table);
     Lengths {
-        validity: (count + 7) / 8,
-        offsets: offset_length(layout, table, count),
+        validity: count.div_ceil(8),
+        offsets: offset_length(layout_at(table), table, count),
         data,
     }
 }
 
-// The first output that is shorter than it needs to be. Its place is a number, which C is given: 1 the validity, 2 the offsets, 3 the data.
+// The first output that is shorter than it needs to be.
 #[tactic(auto, unfolding(crate::specs::Space::lengths_refusal))]
 pub fn check_space(needed: Lengths, lent: Lengths) -> Result<(), Refusal>
     ensures { checked_numbers result ≡ lengths_refusal needed lent }
 {
     if lent.validity < needed.validity {
         return Err(Refusal::Space {
-            place: 1,
+            buffer: OutputBuffer::Validity,
             total: needed.validity,
         });
     }
     if lent.offsets < needed.offsets {
         return Err(Refusal::Space {
-            place: 2,
+            buffer: OutputBuffer::Offsets,
             total: needed.offsets,
         });
     }
     if lent.data < needed.data {
         return Err(Refusal::Space {
-            place: 3,
+            buffer: OutputBuffer::Data,
             total: needed.data,
         });
     }

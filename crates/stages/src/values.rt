@@ -27,7 +27,7 @@ fn shown<'a>(out_validity: &'a [u8], count: u64, nulls: u64) -> &'a [u8]
     if nulls == 0 {
         return &out_validity[0..0];
     }
-    let bytes = (count as usize + 7) / 8;
+    let bytes = count.div_ceil(8) as usize;
     &out_validity[0..bytes]
 }
 
@@ -80,7 +80,8 @@ pub fn take_values(
         Kind::FixedSizeList => {
             take_fixed_size_list_primitive(data, size, width, &picks, zeros, out_data)
         }
-        // an unknown kind was refused, so the sixth is left
-        _ => take_fixed_size_binary(data, size, &picks, zeros, out_data),
+        Kind::FixedSizeBinary => take_fixed_size_binary(data, size, &picks, zeros, out_data),
+        // refused by the sizes' test
+        Kind::Unknown => unreachable!(),
     }
 }

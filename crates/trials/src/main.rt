@@ -6,13 +6,12 @@
 ghost use Rattle.std.specs.Prelude.{◌≤◌};
 
 use checks::columns::check_columns;
-use entries::answer::answered_numbers;
 use entries::take::take;
 use range::bounds::{Scanned, check_bounds};
 use reader::row::{has_row, read_row};
 use std::io;
+use tables::answer::Answer;
 use tables::column::{Column, IndexColumn, Output};
-use tables::refusal::Answer;
 use tables::table::{Indices, Table};
 
 // What outputs are filled with.
@@ -83,7 +82,7 @@ fn gather(
         place,
         total,
         nulls,
-    } = answered_numbers(take(column, indices, lent));
+    } = Answer::from(take(column, indices, lent));
     let kept = is_kept(validity) && is_kept(offsets) && is_kept(data);
     let outputs = if kept { "kept" } else { "written" };
     println!(rt;
@@ -218,7 +217,7 @@ fn scan(rt: &impl Print, rows: u64, indices: &IndexColumn<'_>) -> io::Result<()>
     match checked {
         Ok(()) => print!(rt; "none outside")?,
         Err(refusal) => {
-            let Answer { number, place, .. } = answered_numbers(Err(refusal));
+            let Answer { number, place, .. } = Answer::from(refusal);
             print!(rt; "number {number}, place {place}")?;
         }
     }

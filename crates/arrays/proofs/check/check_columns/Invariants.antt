@@ -5,4 +5,4 @@ use Rattle.arrays.proofs.Counted.{Counted}
 use Rattle.arrays.proofs.check.check_columns.Given as goal
 
 abbrev pub invariant-loop-i : goal.invariant-loop-i
-invariant-loop-i l = Counted (batch_of l.batch) (index_column_of l.indices) l.i l.validity l.offsets l.«data»
+invariant-loop-i l = Counted (batch_of l.batch) (index_column_of l.indices) l.i l.joined

@@ -4,4 +4,4 @@ use Rattle.tables.proofs.Stages.{form-alone}
 use Rattle.checks.proofs.columns.check_table.Goals as goal
 
 pub returns : goal.returns
-returns c = c.check_columns.ensures ∙ form-alone _
+returns c = (rw c.none.ensures at c.check_columns.ensures) ∙ form-alone _

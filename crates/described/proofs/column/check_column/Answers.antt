@@ -1,25 +1,12 @@
--- Past refusals 4 and 5 the column is ready, and the total decides.
-use Rattle.std.proofs.lemmas.Result.{err_from_is_err_and}
-use Rattle.stages.proofs.Routines.{ready-count}
-use Rattle.stages.proofs.Spaces.{rows_fit, bounds-told}
-use Rattle.described.proofs.Columns.{rest-ready, measure-stopped, rest-told}
+-- Refusal 4, or past it 5.
+use Rattle.std.proofs.Common.{◌∙◌}
+use Rattle.tables.proofs.Stages.{passed-up}
+use Rattle.described.proofs.Columns.{offsets-stopped, offsets-passed}
 use Rattle.described.proofs.column.check_column.Goals as goal
 
-pub measure-requires : goal.measure-requires
-measure-requires c = rest-ready _ _ c.requires c.check_offsets.ensures c.in_ok-check_offsets.was c.check_range.ensures c.in_ok-check_range.was
-
-pub returns-in_err-total : goal.returns-in_err-total
-returns-in_err-total c =
-    let p = err_from_is_err_and c.from_residual-in_err-total.result c.from_residual-in_err-total.ensures.1 in
-    rw (p.1, p.2) (measure-stopped _ _ c.requires c.check_offsets.ensures c.in_ok-check_offsets.was c.check_range.ensures c.in_ok-check_range.was c.measure.ensures
-    c.in_err-total.was)
-
-pub needed_lengths-requires : goal.needed_lengths-requires
-needed_lengths-requires c =
-    let r = rest-ready _ _ c.requires c.check_offsets.ensures c.in_ok-check_offsets.was c.check_range.ensures c.in_ok-check_range.was in
-    record { row_fits = rows_fit _ r.column; bounds = bounds-told _ r.column; few = ready-count _ _ r }
+pub returns-in_err-check_offsets : goal.returns-in_err-check_offsets
+returns-in_err-check_offsets c =
+    passed-up _ c.in_err-check_offsets.was c.from_residual.ensures.1 ∙ offsets-stopped _ _ c.check_offsets.ensures c.in_err-check_offsets.was
 
 pub returns : goal.returns
-returns c =
-    rest-told _ _ c.requires c.check_offsets.ensures c.in_ok-check_offsets.was c.check_range.ensures c.in_ok-check_range.was c.measure.ensures c.in_ok-total.was
-    c.needed_lengths.ensures
+returns c = offsets-passed _ _ c.check_offsets.ensures c.in_ok-check_offsets.was c.check_bounds.ensures.checked

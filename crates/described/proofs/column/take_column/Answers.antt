@@ -1,5 +1,5 @@
 -- What is written is what the routines write, and the last offset tells how far.
-use Rattle.std.proofs.Common.{◌∙◌}
+use Rattle.std.proofs.Common.{refl, ◌∙◌}
 use Rattle.gathers.specs.Stored.{output_at}
 use Rattle.tables.proofs.Stages.{layout-told}
 use Rattle.gathers.proofs.Buffers.{validates}
@@ -21,12 +21,12 @@ take_values-requires-clause-nulls c = nulls-counted _ _ c.requires.ready c.take_
 pub take_values-requires-clause-validates : goal.take_values-requires-clause-validates
 take_values-requires-clause-validates c = validates _ _ _ _ c.requires.has_room_for.validity c.take_nulls-nulls.ensures.validity_stored
 
-pub layout_of-layout-requires : goal.layout_of-layout-requires
-layout_of-layout-requires c = ready-row-fits _ _ c.requires.ready c.from-kind.ensures
+pub layout_at-requires : goal.layout_at-requires
+layout_at-requires c = ready-row-fits _ _ c.requires.ready refl
 
 pub data_written-written-requires : goal.data_written-written-requires
 data_written-written-requires c =
-    let l = layout-told _ c.from-kind.ensures c.layout_of-layout.ensures in
+    let l = layout-told _ refl c.layout_at.ensures in
     offsets-in _ _ c.requires.ready c.requires.no_overflow _ c.take_values.ensures.offsets_stored l (room-by-layout _ _ (output_at c.args.out_validity.now c.args.out_offsets.now c.args.out_data.now) c.requires.has_room_for).0
 
 pub needed_lengths-needed-requires : goal.needed_lengths-needed-requires
@@ -39,7 +39,7 @@ returns c =
     let r = c.requires.ready in
     let n = c.take_nulls-nulls.ensures in
     let d = c.take_values.ensures in
-    let l = layout-told _ c.from-kind.ensures c.layout_of-layout.ensures in
+    let l = layout-told _ refl c.layout_at.ensures in
     record {
       told = taken-told _ _ (nulls-counted _ _ r n.nulls) c.needed_lengths-needed.ensures (c.data_written-written.ensures ∙ data-told _ _ r c.requires.no_overflow _ d.offsets_stored l);
       stored = all-stored _ _ _ (validity-stored _ _ r _ n.validity_stored) d.offsets_stored d.data_stored;

@@ -5,15 +5,15 @@ use Rattle.entries.proofs.take.take.Goals as goal
 pub take_column-taken-requires : goal.take_column-taken-requires
 take_column-taken-requires c =
     record {
-      ready = ready _ _ _ c.check.ensures c.in_default.is;
-      no_overflow = overflow-passed _ _ _ c.check.ensures c.in_default.is;
-      has_room_for = room _ _ _ c.check.ensures c.in_default.is;
+      ready = ready _ _ _ c.check.ensures c.in-Ok.is;
+      no_overflow = overflow-passed _ _ _ c.check.ensures c.in-Ok.is;
+      has_room_for = room _ _ _ c.check.ensures c.in-Ok.is;
     }
 
-pub returns-in_default : goal.returns-in_default
-returns-in_default c =
+pub returns-in-Ok : goal.returns-in-Ok
+returns-in-Ok c =
     let t = c.take_column-taken.ensures in
-    both _ _ _ (all-stored _ _ _ c.check.ensures c.in_default.is c.take_column-taken.result t.told t.stored)
+    both _ _ _ (all-stored _ _ _ c.check.ensures c.in-Ok.is c.take_column-taken.result t.told t.stored)
 
-pub returns : goal.returns
-returns c = both _ _ _ (turned-away _ _ _ c.check.ensures c.in-Err.is)
+pub returns-in-Err : goal.returns-in-Err
+returns-in-Err c = both _ _ _ (turned-away _ _ _ c.check.ensures c.in-Err.is)

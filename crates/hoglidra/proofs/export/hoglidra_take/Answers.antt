@@ -2,8 +2,8 @@
 use Rattle.hoglidra.proofs.Exports.{short-answer, long-answer}
 use Rattle.hoglidra.proofs.export.hoglidra_take.Goals as goal
 
-pub returns-then-answer-lt32 : goal.returns-then-answer-lt32
-returns-then-answer-lt32 c = short-answer _ _ _ _ c.if-answer-lt32.true
+pub returns-then-answer-lt-ANSWER_BYTES : goal.returns-then-answer-lt-ANSWER_BYTES
+returns-then-answer-lt-ANSWER_BYTES c = short-answer _ _ _ _ c.if-answer-lt-ANSWER_BYTES.true
 
 pub returns : goal.returns
-returns c = long-answer _ _ _ _ c.if-answer-lt32.false c.take-answered.ensures c.answered_numbers-numbers.ensures c.write_answer.ensures
+returns c = long-answer _ _ _ _ c.if-answer-lt-ANSWER_BYTES.false c.take-answered.ensures c.from-numbers.ensures c.write_answer.ensures

@@ -3,7 +3,7 @@ use Rattle.std.proofs.Common.{refl, sym}
 use Rattle.tables.proofs.Stages.{layout-told}
 use Rattle.bitmaps.proofs.Reading.{no-bits}
 use Rattle.gathers.proofs.Lengths.{offsets-of-blocks, offsets-of-bits}
-use Rattle.stages.proofs.Routines.{layout-by, sixth, ready-count, blocked, blocks-stored, data-held, bits-room, bits-stored}
+use Rattle.stages.proofs.Routines.{unknown-refused, ready-count, blocked, blocks-stored, data-held, bits-room, bits-stored}
 use Rattle.stages.proofs.values.take_values.Goals as goal
 
 pub shown-valid-requires : goal.shown-valid-requires
@@ -68,15 +68,16 @@ returns-in-FixedSizeList c =
 pub take_fixed_size_binary-requires : goal.take_fixed_size_binary-requires
 take_fixed_size_binary-requires c =
     let p = c.requires in
-    let d = c.in_default in
-    blocked _ _ p.ready p.validates p.nulls c.shown-valid.ensures _ (layout-by _ (sixth _ p.ready.column c.from-kind.ensures d.not-Primitive d.not-Boolean d.not-VariableBytes d.not-List d.not-FixedSizeList)) p.has_room.1
+    blocked _ _ p.ready p.validates p.nulls c.shown-valid.ensures _ (layout-told _ c.in-FixedSizeBinary.ensures refl) p.has_room.1
 
-pub returns-in_default : goal.returns-in_default
-returns-in_default c =
+pub returns-in-FixedSizeBinary : goal.returns-in-FixedSizeBinary
+returns-in-FixedSizeBinary c =
     let p = c.requires in
-    let d = c.in_default in
-    let e = layout-by _ (sixth _ p.ready.column c.from-kind.ensures d.not-Primitive d.not-Boolean d.not-VariableBytes d.not-List d.not-FixedSizeList) in
+    let e = layout-told _ c.in-FixedSizeBinary.ensures refl in
     record {
       offsets_stored = sym (offsets-of-blocks _ _ _ _ e);
       data_stored = blocks-stored _ _ p.ready p.validates p.nulls c.shown-valid.ensures _ e _ c.take_fixed_size_binary.ensures;
     }
+
+pub unreachable-requires : goal.unreachable-requires
+unreachable-requires c = unknown-refused _ c.requires.ready.column c.in-Unknown.ensures
