@@ -8,52 +8,76 @@ use native.Mathlib.Numerals.{add-one}
 use native.Mathlib.Omega.{arith}
 use lib.Dec.{eqb, ltb}
 use lib.ListN.{length}
-use borrow.Author.Tests.{lt-ltb, le-ltb, ne_eqb, eq-eqb}
+use borrow.Author.Tests.{lt-ltb, le-ltb, ltb-true, ne_eqb, eqb-true}
 use Rattle.bits.specs.Numbers.{number_at, is_number_width}
 use Rattle.bits.specs.Bits.{bit_value, is_absent, valid_at}
 use Rattle.bits.specs.Bytes.{part}
 use Rattle.tables.specs.declared.table.Layout.TheVariants.{VariableWidth}
+use Rattle.tables.specs.declared.table.Kind.{Kind}
+use Rattle.tables.specs.declared.table.Kind.TheVariants.{Primitive, Boolean, VariableBytes, List as ListKind, FixedSizeList, FixedSizeBinary, Unknown}
+use Rattle.tables.specs.Kinds.{kind_of, uses_of}
 use Rattle.tables.specs.Stages.{Checked}
 use Rattle.std.specs.Prelude.{Option, Some, None, Ok, Err}
 use Rattle.std.specs.Borrow.{Bor}
 use Rattle.std.specs.Option.{is_some, unwrap_or}
-use Rattle.std.specs.Result.{result_ok}
+use Rattle.std.specs.Result.{is_err}
 use Rattle.tables.specs.Columns.{Column, kind_at, layout_at, offset_at}
 use Rattle.tables.specs.Stages.{checked_numbers}
-use Rattle.tables.specs.Refusals.{column_refusal, WellFormed}
+use Rattle.tables.specs.Answers.{passes}
+use Rattle.tables.specs.Refusals.{max_rows, column_refusal, WellFormed}
 use Rattle.tables.specs.Rows.{rows_of}
 use Rattle.reader.specs.Row.{has_row, read_row, row_start, place_of}
 use Rattle.reader.specs.Found.{row_found}
-use Rattle.bits.proofs.Bits.{bit-read}
-use Rattle.bits.proofs.Tests.{and-false-right}
-use Rattle.tables.proofs.Facts.{formed}
+use Rattle.bits.proofs.Bits.{bit_test}
+use Rattle.bits.proofs.Tests.{and-true}
+use Rattle.tables.proofs.Facts.{formed, passed-well-formed}
 use Rattle.tables.proofs.Offsets.{VariableFacts, variable-facts, below, rises}
 use Rattle.tables.proofs.Stages.{refusing}
 use Rattle.tables.proofs.There.{row-valid-there, offset-there}
 use Rattle.tables.proofs.Views.{variable-bytes, offset_at-number, rows_of-by, variable-kind-at}
 
 -- the column passed its tests
-formed-column : (c : Column) (s : Checked) → checked_numbers s ≡ column_refusal c → Some tt ≡ result_ok s → WellFormed c
+formed-column : (c : Column) (s : Checked) → checked_numbers s ≡ column_refusal c → is_err s ≡ false → WellFormed c
 formed-column c (Ok a) e d = sym e
-formed-column c (Err f) e d = absurd (true≢false (ap is_some d))
+formed-column c (Err f) e d = absurd (true≢false d)
+
+-- kind 3 is the number of variable bytes, and of no other
+kind-three : (n : ℕ) → VariableBytes ≡ kind_of n → n ≡ 3
+unfolding kind_of
+kind-three n = go (eqb n 1) (eqb n 2) (eqb n 3) (eqb n 4) (eqb n 5) (eqb n 6) refl
+  where
+    go : (a b c d e f : Bool) → eqb n 3 ≡ c
+        → VariableBytes
+        ≡ cond a Primitive (cond b Boolean (cond c VariableBytes (cond d ListKind (cond e FixedSizeList (cond f FixedSizeBinary Unknown))))) → n ≡ 3
+    go true b c d e f t k = absurd (true≢false (ap (λ (k : Kind). (uses_of k).offset_width) k))
+    go false true c d e f t k = absurd (true≢false (ap (λ (k : Kind). (uses_of k).offset_width) k))
+    go false false true d e f t k = eqb-true n 3 t
+    go false false false true e f t k = absurd (true≢false (sym (ap (λ (k : Kind). (uses_of k).width) k)))
+    go false false false false true f t k = absurd (true≢false (ap (λ (k : Kind). (uses_of k).offset_width) k))
+    go false false false false false true t k = absurd (true≢false (ap (λ (k : Kind). (uses_of k).offset_width) k))
+    go false false false false false false t k = absurd (true≢false (ap (λ (k : Kind). (uses_of k).offset_width) k))
+
+three-kind : (n : ℕ) → n ≡ 3 → kind_of n ≡ VariableBytes
+unfolding kind_of
+three-kind n e = rw e
 
 module _ (c : Column) (r : ℕ) where
   pub nothing : (d : Bor (List ℕ)) → has_row c r ≡ false → None ≡ row_found d c r
   unfolding row_found
   nothing d e = rw e
 
-  pub unfit : (s : Checked) → checked_numbers s ≡ column_refusal c → None ≡ result_ok s → has_row c r ≡ false
+  pub unfit : (s : Checked) → checked_numbers s ≡ column_refusal c → is_err s ≡ true → has_row c r ≡ false
   unfolding has_row
-  unfit (Ok a) e d = absurd (true≢false (sym (ap is_some d)))
+  unfit (Ok a) e d = absurd (true≢false (sym d))
   unfit (Err f) e d = rw (sym e, refusing f)
 
-  module _ (s : Checked) (told : checked_numbers s ≡ column_refusal c) (passed : Some tt ≡ result_ok s) where
+  module _ (s : Checked) (told : checked_numbers s ≡ column_refusal c) (passed : is_err s ≡ false) where
     w : WellFormed c
     w = formed-column c s told passed
 
-    pub other-kind : (c.table.kind ≡ 3 → ⊥) → has_row c r ≡ false
+    pub other-kind : (kind_of c.table.kind ≡ VariableBytes → ⊥) → has_row c r ≡ false
     unfolding has_row
-    other-kind n = rw (w, ne_eqb c.table.kind 3 n)
+    other-kind n = rw (w, ne_eqb c.table.kind 3 (λ e. n (three-kind c.table.kind e)))
 
     pub absent-row : c.table.rows ≤ r → has_row c r ≡ false
     unfolding has_row
@@ -63,51 +87,66 @@ module _ (c : Column) (r : ℕ) where
         none true b = refl
         none false b = refl
 
-    module _ (k : c.table.kind ≡ 3) (h : r < c.table.rows) where
-      valid-bit : (rows_of c).valid r ≡ valid_at c.validity c.table.validity_bit r
-      valid-bit = rw (rows_of-by c)
-
+    module _ (k : VariableBytes ≡ kind_of c.table.kind) (h : r < c.table.rows) where
       -- as its validity bit is read
-      pub null-row : {x : ℕ} → x ≡ bit_value (valid_at c.validity c.table.validity_bit r) → (x ≡ 1 → ⊥) → has_row c r ≡ false
-      unfolding has_row
-      null-row e z = rw (w, valid-bit, bit-read (valid_at c.validity c.table.validity_bit r) e (ne_eqb _ 1 z)) (and-false-right (eqb c.table.kind 3 && ltb r c.table.rows) refl)
-
-      found : {x : ℕ} → x ≡ bit_value (valid_at c.validity c.table.validity_bit r) → x ≡ 1 → has_row c r ≡ true
-      unfolding has_row
-      found e z = rw (w, valid-bit, bit-read (valid_at c.validity c.table.validity_bit r) e (eq-eqb _ 1 z), k, lt-ltb r c.table.rows h)
-
-      pub facts : VariableFacts 1 c
-      facts =
-          let f = formed c w in
-          let l : layout_at c ≡ VariableWidth 1 = (variable-bytes c k).1 in
-          variable-facts (kind_at c) 1 c (rw l at (variable-kind-at c f.good_kind)) (rw l at f)
-
-      -- what the reads ask
       pub row-bit : is_absent c.validity ≡ false → (c.table.validity_bit + r < 8 * length c.validity) × (c.table.validity_bit + r < 2 ^ 64)
       row-bit = row-valid-there c (formed c w) r h
 
-      pub offset-can : (i : ℕ) → i ≤ c.table.rows → (is_number_width c.table.offset_width ≡ true) × (i * c.table.offset_width + c.table.offset_width ≤ length c.offsets)
-      offset-can = offset-there c.table.offset_width c.table.rows c.offsets facts.width facts.fits
+      valid-bit : (rows_of c).valid r ≡ valid_at c.validity c.table.validity_bit r
+      valid-bit = rw (rows_of-by c)
 
-      -- the row that was found, as its offsets are read
-      module _ {x from to : ℕ} (v : x ≡ bit_value (valid_at c.validity c.table.validity_bit r)) (z : x ≡ 1)
-          (a : from ≡ number_at c.table.offset_width c.offsets r) (b : to ≡ number_at c.table.offset_width c.offsets (r + 1)) where
-        from-offset : from ≡ offset_at c r
-        from-offset = a ∙ sym (offset_at-number c r)
+      by-bit : valid_at c.validity c.table.validity_bit r ≡ has_row c r
+      unfolding has_row
+      by-bit = rw (w, valid-bit, kind-three c.table.kind k, lt-ltb r c.table.rows h) refl
 
-        to-offset : to ≡ offset_at c (suc r)
-        to-offset = b ∙ ap (number_at c.table.offset_width c.offsets) (add-one r) ∙ sym (offset_at-number c (suc r))
+      pub bit-decides : {x : ℕ} → x ≡ bit_value (valid_at c.validity c.table.validity_bit r) → eqb x 1 ≡ has_row c r
+      bit-decides e = ap (λ (x : ℕ). eqb x 1) e ∙ bit_test (valid_at c.validity c.table.validity_bit r) ∙ by-bit
 
-        pub row_inside : (from ≤ to) × (to ≤ length c.«data»)
-        row_inside = (rw (from-offset, to-offset) (rises 1 c facts r h), rw (to-offset) (omega (arith, below 1 c facts (suc r) h)))
+  -- ---- where there is such a row
 
-        -- its bytes
-        row-bytes : part from (to - from) c.«data» ≡ (rows_of c).bytes r
-        row-bytes = rw (from-offset, to-offset, rows_of-by c, (variable-bytes c k).1, mul-one (offset_at c r), mul-one (offset_at c (suc r) - offset_at c r))
+  module _ (there : has_row c r ≡ true) where
+    facts-there : WellFormed c × (c.table.kind ≡ 3) × (r < c.table.rows)
+    unfolding has_row
+    facts-there =
+        let k : Bool = eqb c.table.kind 3 in
+        let l : Bool = ltb r c.table.rows in
+        let p = and-true (passes (column_refusal c) && k && l) ((rows_of c).valid r) there in
+        let q = and-true (passes (column_refusal c) && k) l p.0 in
+        let n = and-true (passes (column_refusal c)) k q.0 in
+        (passed-well-formed c n.0, eqb-true c.table.kind 3 n.1, ltb-true r c.table.rows q.1)
 
-        pub row_at : (d : Bor (List ℕ)) → Some (record { ref_ptr = place_of from d.ref_ptr; now = part from (to - from) c.«data» }) ≡ row_found d c r
-        unfolding row_found
-        row_at d = rw (found v z, row-bytes, from-offset)
+    pub row-numbered : suc r ≤ max_rows
+    row-numbered = omega (arith, facts-there.2, (formed c facts-there.0).rows)
+
+    facts : VariableFacts 1 c
+    facts =
+        let f = formed c facts-there.0 in
+        let l : layout_at c ≡ VariableWidth 1 = (variable-bytes c facts-there.1).1 in
+        variable-facts (kind_at c) 1 c (rw l at (variable-kind-at c f.good_kind)) (rw l at f)
+
+    -- what the reads ask
+    pub offset-can : (i : ℕ) → i ≤ suc r → (is_number_width c.table.offset_width ≡ true) × (i * c.table.offset_width + c.table.offset_width ≤ length c.offsets)
+    offset-can i h = offset-there c.table.offset_width c.table.rows c.offsets facts.width facts.fits i (omega (arith, h, facts-there.2))
+
+    -- the row that was found, as its offsets are read
+    module _ {from to : ℕ} (a : from ≡ number_at c.table.offset_width c.offsets r) (b : to ≡ number_at c.table.offset_width c.offsets (r + 1)) where
+      from-offset : from ≡ offset_at c r
+      from-offset = a ∙ sym (offset_at-number c r)
+
+      to-offset : to ≡ offset_at c (suc r)
+      to-offset = b ∙ ap (number_at c.table.offset_width c.offsets) (add-one r) ∙ sym (offset_at-number c (suc r))
+
+      pub row_inside : (from ≤ to) × (to ≤ length c.«data»)
+      row_inside = (rw (from-offset, to-offset) (rises 1 c facts r facts-there.2), rw (to-offset) (omega (arith, below 1 c facts (suc r) facts-there.2)))
+
+      -- its bytes
+      row-bytes : part from (to - from) c.«data» ≡ (rows_of c).bytes r
+      row-bytes =
+          rw (from-offset, to-offset, rows_of-by c, (variable-bytes c facts-there.1).1, mul-one (offset_at c r), mul-one (offset_at c (suc r) - offset_at c r))
+
+      pub row_at : (d : Bor (List ℕ)) → Some (record { ref_ptr = place_of from d.ref_ptr; now = part from (to - from) c.«data» }) ≡ row_found d c r
+      unfolding row_found
+      row_at d = rw (there, row-bytes, from-offset)
 
 -- ---- what is handed back, by what was found
 

@@ -9,7 +9,24 @@ use bits::number::number_at;
 use buffers::bit::is_valid;
 use checks::columns::check_table;
 use tables::column::Column;
-use tables::table::Table;
+use tables::table::{Kind, Table};
+
+// Whether there is such a row, and it is valid.
+pub fn has_row(column: &Column<'_>, row: u64) -> bool
+    ensures { result ≡ has_row (column_of column.now) row }
+{
+    let table = column.table;
+    if check_table(column).is_err() {
+        return false;
+    }
+    let Kind::VariableBytes = Kind::from(table.kind) else {
+        return false;
+    };
+    if table.rows <= row {
+        return false;
+    }
+    is_valid(column.validity, table.validity_bit as usize, row as usize) == 1
+}
 
 // The row's bytes, where they lie, if there is such a row and it is valid.
 fn find_row<'a>(
@@ -27,18 +44,10 @@ fn find_row<'a>(
         offsets,
         validity,
     };
-    check_table(&column).ok()?;
-    // The number itself, as in the definition of a row that is there: one kind is asked for, and none is chosen by.
-    if table.kind != 3 {
-        return None;
-    }
-    if table.rows <= row {
+    if !has_row(&column, row) {
         return None;
     }
     let at = row as usize;
-    if is_valid(validity, table.validity_bit as usize, at) != 1 {
-        return None;
-    }
     let width = table.offset_width as usize;
     let from = number_at(offsets, width, at) as usize;
     let to = number_at(offsets, width, at + 1) as usize;
@@ -58,18 +67,4 @@ pub fn read_row<'a>(
     ensures bytes { result.now ≡ read_row (column_at table «data».entry offsets.entry validity.entry) row }
 {
     find_row(table, data, offsets, validity, row).unwrap_or(&data[0..0])
-}
-
-// Whether there is such a row, and it is valid.
-pub fn has_row(column: &Column<'_>, row: u64) -> bool
-    ensures { result ≡ has_row (column_of column.now) row }
-{
-    find_row(
-        column.table,
-        column.data,
-        column.offsets,
-        column.validity,
-        row,
-    )
-    .is_some()
 }
