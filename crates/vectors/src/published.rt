@@ -7,7 +7,7 @@ use crate::case::{Case, Columns, Wanted};
 use crate::report::{Difference, Failure, Tally};
 use std::alloc::Global;
 
-// No published answer is a longer line.
+// No published answer is a longer line, so that one is none.
 const MOST_LINE: usize = 4096;
 
 // Eight rows of a validity.

@@ -3,7 +3,7 @@ use std::alloc::{AllocError, AllocFailed};
 use std::{fmt, io};
 
 // A number of the answer.
-#[derive(Clone, Copy)]
+#[derive(Clone, Copy, Debug, PartialEq, Eq)]
 pub enum Number {
     Number,
     Place,
@@ -23,7 +23,7 @@ impl fmt::Display for Number {
 }
 
 // A buffer that is lent to be written; the tail is what follows the answer.
-#[derive(Clone, Copy)]
+#[derive(Clone, Copy, Debug, PartialEq, Eq)]
 pub enum Output {
     Validity,
     Offsets,
@@ -43,7 +43,7 @@ impl fmt::Display for Output {
 }
 
 // The first that is not as it should be. Null bytes: a published answer has bytes in a null row of kind 3 or 4, and was not run.
-#[derive(Clone, Copy)]
+#[derive(Clone, Copy, Debug, PartialEq, Eq)]
 pub enum Difference {
     Unreadable,
     NullBytes,
