@@ -11,6 +11,13 @@ use crate::block::take_block;
 use crate::zeros::Zeros;
 use bits::number::number_at;
 
+// A validity that is there, from bit 0 on: arrow's `NullBuffer`.
+#[derive(Clone, Copy)]
+pub struct NullBuffer<'a> {
+    pub bytes: &'a [u8],
+    ghost present: { is_absent bytes.now ≡ false },
+}
+
 // The m blocks whose validity is in byte k.
 #[tactic(auto, using(crate::proofs::Blocks::row_there, crate::proofs::Blocks::valid_bit))]
 fn take_byte(
@@ -18,18 +25,18 @@ fn take_byte(
     n: usize,
     w: usize,
     index_data: &[u8],
-    valid: &[u8],
+    valid: NullBuffer<'_>,
     zeros: Zeros<'_>,
     k: usize,
     m: usize,
     out_data: &mut [u8],
 )
-    requires named { Named n w (8 * k + m) index_data.now valid.now «data».now out_data.old }
-    requires byte_there { (is_absent valid.now ≡ false) × (0 < m) × (m ≤ 8) × (8 * k + m < 2 ^ 64) }
+    requires named { Named n w (8 * k + m) index_data.now valid.bytes.now «data».now out_data.old }
+    requires byte_there { (0 < m) × (m ≤ 8) × (8 * k + m < 2 ^ 64) }
     ensures { out_data.new ≡ overwrite_at (8 * k * n)
-        (concat m (λ t. named_block n w index_data.now valid.now «data».now (8 * k + t))) out_data.old }
+        (concat m (λ t. named_block n w index_data.now valid.entry.bytes.now «data».now (8 * k + t))) out_data.old }
 {
-    let byte = valid[k];
+    let byte = valid.bytes[k];
     for t in 0..m {
         let j = 8 * k + t;
         let row = number_at(index_data, w, j) as usize;
@@ -46,13 +53,12 @@ pub fn take_valid(
     w: usize,
     count: usize,
     index_data: &[u8],
-    valid: &[u8],
+    valid: NullBuffer<'_>,
     zeros: Zeros<'_>,
     out_data: &mut [u8],
 )
-    requires named { Named n w count index_data.now valid.now «data».now out_data.old }
-    requires with_nulls { is_absent valid.now ≡ false }
-    ensures { out_data.new ≡ overwrite (named_blocks n w count index_data.now valid.now «data».now) out_data.old }
+    requires { Named n w count index_data.now valid.bytes.now «data».now out_data.old }
+    ensures { out_data.new ≡ overwrite (named_blocks n w count index_data.now valid.entry.bytes.now «data».now) out_data.old }
 {
     let whole = count / 8;
     for k in 0..whole {

@@ -8,7 +8,8 @@ use Rattle.tables.specs.Bounds.{max_block}
 use Rattle.gathers.specs.Buffers.{taken_block}
 
 -- the indices pass their tests, and their validity starts at bit 0, as that of an output does; the blocks of n bytes that the valid ones name are in s, and out
--- has n bytes for each index
+-- has n bytes for each index. (It relates a size, an index column, the data and an output, which come from as many places: a struct of them would be the
+-- list of parameters again, made for one call.)
 pub record Blocked (n : ℕ) (x : IndexColumn) (s out : List ℕ) : Type 0 where
   pub passed : passes (index_refusal x) ≡ true
   pub first : x.indices.validity_bit ≡ 0

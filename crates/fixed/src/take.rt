@@ -1,6 +1,7 @@
-// The taken values of the columns of fixed width. The indices of blocks come with the validity of the output rows in place of their own: where a row is null, zeros are
-// written, whether its index or the row that it names is null. The Rust writes what lies below the null there. The zeros are what null rows
-// are copied from.
+// The taken values of the columns of fixed width. The indices of blocks come with the validity of the output rows in place of their own: where a row is
+// null, zeros are written, whether its index or the row that it names is null. The Rust writes what lies below the null there. The zeros are what null
+// rows are copied from. Of a column of blocks its data and the size of a block are read, which are handed on as they are: what else a `Column` has would
+// go unread, and `Blocked` relates them to the indices and the output all the same. The functions below `take_native` are thin, and have the Rust's names.
 ghost use Rattle.std.specs.Prelude.{◌≡◌, true, ◌*◌, ◌≤◌, length};
 ghost use Rattle.bits.specs.Bytes.{overwrite};
 ghost use Rattle.bits.specs.Bits.{bytes_for, is_absent};
@@ -10,6 +11,7 @@ ghost use Rattle.bitmaps.specs.Reach.{taken_bits, MaskThere};
 ghost use Rattle.fixed.specs.Blocked.{Blocked, taken_blocks};
 
 use bitmaps::bit::{BooleanBuffer, take_bits};
+use blocks::valid::NullBuffer;
 use blocks::zeros::Zeros;
 use tables::column::IndexColumn;
 use widths::dispatch::{all_by_width, valid_by_width};
@@ -37,7 +39,9 @@ pub fn take_native(
         w,
         count,
         indices.data,
-        indices.validity,
+        NullBuffer {
+            bytes: indices.validity,
+        },
         zeros,
         out_data,
     );

@@ -2,13 +2,14 @@
 // variable of the loops (11.6 instructions a row of 4 bytes, in place of 6.1); W makes a function for each width. In `blocks` it is a number: with
 // `take_valid::<W>` the eight rows of a byte would be in line before the size is known, and no size would have a loop of its own. There are two functions,
 // with and without a validity: both loops together are too large to be inlined at each literal.
-ghost use Rattle.std.specs.Prelude.{◌≡◌, false, []};
+// W, the count and the numbers stay apart, as n and the data do: one value of them would leave six parameters of eight, `Named` would relate it to the same
+// others, and W is to be a literal to the loop, which a field in memory is not (blocks/src/valid.rt).
+ghost use Rattle.std.specs.Prelude.{◌≡◌, []};
 ghost use Rattle.bits.specs.Bytes.{overwrite};
-ghost use Rattle.bits.specs.Bits.{is_absent};
 ghost use Rattle.blocks.specs.Blocked.{Named, named_blocks};
 
 use blocks::named::take_all;
-use blocks::valid::take_valid;
+use blocks::valid::{NullBuffer, take_valid};
 use blocks::zeros::Zeros;
 
 // All rows, by numbers of W bytes.
@@ -59,13 +60,12 @@ fn valid_by<const W: usize>(
     n: usize,
     count: usize,
     index_data: &[u8],
-    valid: &[u8],
+    valid: NullBuffer<'_>,
     zeros: Zeros<'_>,
     out_data: &mut [u8],
 )
-    requires named { Named n W count index_data.now valid.now «data».now out_data.old }
-    requires with_nulls { is_absent valid.now ≡ false }
-    ensures { out_data.new ≡ overwrite (named_blocks n W count index_data.now valid.now «data».now) out_data.old }
+    requires { Named n W count index_data.now valid.bytes.now «data».now out_data.old }
+    ensures { out_data.new ≡ overwrite (named_blocks n W count index_data.now valid.entry.bytes.now «data».now) out_data.old }
 {
     match n {
         1 => take_valid(data, 1, W, count, index_data, valid, zeros, out_data),
@@ -86,13 +86,12 @@ pub fn valid_by_width(
     w: u64,
     count: usize,
     index_data: &[u8],
-    valid: &[u8],
+    valid: NullBuffer<'_>,
     zeros: Zeros<'_>,
     out_data: &mut [u8],
 )
-    requires named { Named n w count index_data.now valid.now «data».now out_data.old }
-    requires with_nulls { is_absent valid.now ≡ false }
-    ensures { out_data.new ≡ overwrite (named_blocks n w count index_data.now valid.now «data».now) out_data.old }
+    requires { Named n w count index_data.now valid.bytes.now «data».now out_data.old }
+    ensures { out_data.new ≡ overwrite (named_blocks n w count index_data.now valid.entry.bytes.now «data».now) out_data.old }
 {
     match w {
         2 => valid_by::<2>(data, n, count, index_data, valid, zeros, out_data),

@@ -7,5 +7,5 @@ pub loop-t-preserved : goal.loop-t-preserved
 loop-t-preserved c =
     let a = c.args in
     let at = c.loop-t in
-    let v = valid_bit a.valid.now a.k at.t c.requires.byte_there.0 (omega arith) in
+    let v = valid_bit a.valid.bytes.now a.k at.t a.valid.present (omega arith) in
     block_after c.requires.named (8 * a.k) at.t (omega arith) c.number_at-row.ensures v at.invariant c.take_block.ensures

@@ -7,4 +7,4 @@ use Rattle.blocks.proofs.valid.take_byte.Given as goal
 
 abbrev pub invariant-loop-t : goal.invariant-loop-t
 invariant-loop-t l = l.out_data ≡ overwrite_at (8 * l.k * l.n)
-    (concat l.t (λ i. named_block l.n l.w l.index_data l.valid l.«data» (8 * l.k + i))) l.fn.out_data
+    (concat l.t (λ i. named_block l.n l.w l.index_data l.valid.bytes.now l.«data» (8 * l.k + i))) l.fn.out_data

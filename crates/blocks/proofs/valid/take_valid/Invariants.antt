@@ -5,4 +5,4 @@ use Rattle.blocks.specs.Blocked.{named_blocks}
 use Rattle.blocks.proofs.valid.take_valid.Given as goal
 
 abbrev pub invariant-loop-k : goal.invariant-loop-k
-invariant-loop-k l = l.out_data ≡ overwrite (named_blocks l.n l.w (8 * l.k) l.index_data l.valid l.«data») l.fn.out_data
+invariant-loop-k l = l.out_data ≡ overwrite (named_blocks l.n l.w (8 * l.k) l.index_data l.valid.bytes.now l.«data») l.fn.out_data
