@@ -1,6 +1,6 @@
 -- What a gather of bits reads, of the index column and of the source. Assumes nothing.
 use mathlib.Core.Path.{◌≡◌, refl, sym, ap, ◌∙◌}
-use mathlib.Core.Bool.{Bool, true, false, ◌&&◌}
+use mathlib.Core.Bool.{Bool, true, false, not, ◌&&◌}
 use mathlib.Core.List.{List}
 use Prim.Native.Nat.{ℕ, ◌+◌, ◌*◌, ◌/◌, ◌%◌, ◌^◌, ◌≤◌, ◌<◌}
 use native.Mathlib.Nat.{mul-zero, mul-one, mul-le-mul_right}
@@ -9,18 +9,21 @@ use lib.Bits.{bit_and, and_mask, and_le_r}
 use lib.Dec.{eqb, ltb}
 use lib.ListN.{length}
 use lib.Pow.{shl_exact}
-use borrow.Author.Tests.{lt-ltb, ltb-true, eqb-true, eqb-false}
+use borrow.Author.Tests.{lt-ltb, ltb-true, ltb-false, eqb-true, eqb-false}
 use Rattle.bits.specs.Bytes.{overwrite}
 use Rattle.bits.specs.Numbers.{number_at}
-use Rattle.bits.specs.Bits.{bit_value, bit_at, byte_of, pack, is_absent, valid_at}
+use Rattle.bits.specs.Bits.{bit_value, bit_at, bytes_for, byte_of, pack, is_absent, valid_at}
+use Rattle.bits.proofs.Tests.{or-false}
 use Rattle.tables.specs.Columns.{IndexColumn, index_valid, index}
+use Rattle.tables.specs.Answers.{passes}
+use Rattle.tables.specs.Refusals.{max_bytes, max_bit, index_refusal}
 use Rattle.gathers.specs.Buffers.{taken_bit}
 use Rattle.gathers.specs.Ready.{InRange}
-use Rattle.bitmaps.specs.Reach.{HoldsBits, taken_bits, Reached, bit_in, byte_bit, Reaches}
+use Rattle.bitmaps.specs.Reach.{HoldsBits, taken_bits, MaskThere, Reached, bit_in, byte_bit, Reaches}
 use Rattle.bits.proofs.Bits.{bit_value-lt, bit_test, bit-value, byte_of-bit, byte_of-cong, pack-cong, valid_at-absent, valid_at-present}
 use Rattle.bits.proofs.Words.{byte-and}
 use Rattle.tables.proofs.Facts.{index-formed}
-use Rattle.tables.proofs.There.{index_number, index-valid, index-valid-there, valid-bits-there}
+use Rattle.tables.proofs.There.{index_number, index-valid}
 use Rattle.gathers.proofs.Buffers.{valid-below, bit-named, bit-null}
 
 -- ---- a bit
@@ -67,6 +70,21 @@ module _ (v : List ℕ) (b p n : ℕ) where
 pub no-bits : {b rows : ℕ} (s : List ℕ) → HoldsBits b rows s → is_absent s ≡ true → rows ≡ 0
 no-bits s held e = let empty = eqb-true (length s) 0 e in omega (arith, held.there, empty)
 
+-- the validity of the indices, if any is lent, has a bit for each
+pub indices-held : (x : IndexColumn) → passes (index_refusal x) ≡ true → is_absent x.validity ≡ false → HoldsBits x.indices.validity_bit x.indices.count x.validity
+indices-held x p e =
+    let f = index-formed x p in
+    let v = x.validity in
+    let small : length v ≤ max_bytes =
+    ltb-false max_bytes (length v) (or-false (ltb max_bytes (length v)) (not (is_absent v) && ltb max_bit x.indices.validity_bit) f.validity_limit).0 in
+    let there : bytes_for (x.indices.validity_bit + x.indices.count) ≤ length v =
+    ltb-false (length v) (bytes_for (x.indices.validity_bit + x.indices.count)) (rw e at f.validity_fits) in
+    record { small = omega (arith, small, there); there = there }
+
+-- and so has a mask, from bit 0 on
+pub mask-held : (x : IndexColumn) → passes (index_refusal x) ≡ true → {m : List ℕ} → MaskThere x.indices.count m → is_absent m ≡ false → HoldsBits 0 x.indices.count m
+mask-held x p there e = record { small = omega (arith, (index-formed x p).count); there = omega (arith, there e) }
+
 -- ---- an index column in range, and a source that has its rows
 
 module _ (s : List ℕ) (b rows : ℕ) (x : IndexColumn) (i : InRange rows x) where
@@ -87,13 +105,11 @@ module _ (s : List ℕ) (b rows : ℕ) (x : IndexColumn) (i : InRange rows x) wh
       go : (t : Bool) → is_absent s ≡ t → Reached b s x
       go false e = let h = held e in record {
         passed = i.passed;
-        small = h.small;
         some = λ l. omega (arith, h.there, rows-there none l);
-        inside = λ j l d. omega (arith, h.there, valid-below rows x i j l d);
+        inside = λ j l d. (omega (arith, h.there, valid-below rows x i j l d), omega (arith, h.small, valid-below rows x i j l d));
       }
-      go true e = let no = some e in let empty = eqb-true (length s) 0 e in record {
+      go true e = let no = some e in record {
         passed = i.passed;
-        small = omega (arith, empty);
         some = λ l. absurd (omega (arith, no, rows-there none l));
         inside = λ j l d. absurd (omega (arith, no, valid-below rows x i j l d));
       }
@@ -118,13 +134,6 @@ module _ (s : List ℕ) (b rows : ℕ) (x : IndexColumn) (i : InRange rows x) wh
 -- ---- the n indices from index p on
 
 module _ (s : List ℕ) (b : ℕ) (x : IndexColumn) (r : Reached b s x) (p n : ℕ) where
-  -- their validity is there, if any is lent
-  pub valid-there : p + n ≤ x.indices.count → 0 < n → is_absent x.validity ≡ false
-      → (x.indices.validity_bit + p + n ≤ 8 * length x.validity) × (x.indices.validity_bit + p < 2 ^ 64)
-  valid-there h some e =
-      let f = index-formed x r.passed in
-      (omega (arith, valid-bits-there x.validity x.indices.validity_bit x.indices.count f.validity_fits e), (index-valid-there x f p (omega arith) e).1)
-
   -- by the byte of it
   module _ (valid : ℕ) (v : (t : ℕ) → t < n → bit_in valid t ≡ valid_at x.validity x.indices.validity_bit (p + t)) where
     pub byte-reached : p + n ≤ x.indices.count → (0 < n) × (n ≤ 8) → Reaches b x s valid p n
@@ -135,7 +144,6 @@ module _ (s : List ℕ) (b : ℕ) (x : IndexColumn) (r : Reached b s x) (p n : �
           width = f.width;
           numbered = omega (arith, f.data_fit);
           few = (few.0, few.1, omega (arith, f.count));
-          small = r.small;
           some = r.some (omega arith);
           inside = λ t l e. rw (← index_number x (p + t)) (r.inside (p + t) (omega arith) (index-valid x (p + t) ∙ sym (v t l) ∙ e));
         }

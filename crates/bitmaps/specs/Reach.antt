@@ -4,28 +4,27 @@ use Rattle.bits.specs.Numbers.{number_at, is_number_width}
 use Rattle.bits.specs.Bits.{bit_at, bytes_for, pack, is_absent, valid_at}
 use Rattle.tables.specs.Columns.{IndexColumn, index_valid, index}
 use Rattle.tables.specs.Answers.{passes}
-use Rattle.tables.specs.Refusals.{max_rows, max_bytes, index_refusal}
+use Rattle.tables.specs.Refusals.{max_rows, index_refusal}
 use Rattle.gathers.specs.Buffers.{taken_bit}
 
 -- the bits of so many rows, from bit offset b on, are in s
 pub record HoldsBits (b rows : ℕ) (s : List ℕ) : Type 0 where
-  pub small : length s ≤ max_bytes
+  pub small : b + rows < 2 ^ 60
   pub there : bytes_for (b + rows) ≤ length s
 
 -- the output bits, spare bits 0; where m is there, 0 also where a bit of it is
 abbrev pub taken_bits : List ℕ → ℕ → IndexColumn → List ℕ → List ℕ
 taken_bits s b x m = pack x.indices.count (λ j. taken_bit s b x j && valid_at m 0 j)
 
--- a mask of so many bits, or none
+-- a mask of so many bits, or none. (It is of a mask and of the count of the indices beside it: no type of one of them can say it.)
 abbrev pub MaskThere : ℕ → List ℕ → Type 0
 MaskThere n m = is_absent m ≡ false → bytes_for n ≤ length m
 
 -- an index column that no test of its own refuses; s has the first row's bit, if there is an index, and that of each row which a valid index names
 pub record Reached (b : ℕ) (s : List ℕ) (x : IndexColumn) : Type 0 where
   pub passed : passes (index_refusal x) ≡ true
-  pub small : length s ≤ max_bytes
   pub some : 0 < x.indices.count → b < 8 * length s
-  pub inside : (j : ℕ) → j < x.indices.count → index_valid x j ≡ true → b + index x j < 8 * length s
+  pub inside : (j : ℕ) → j < x.indices.count → index_valid x j ≡ true → (b + index x j < 8 * length s) × (b + index x j < 2 ^ 60)
 
 -- bit t of a byte
 abbrev pub bit_in : ℕ → ℕ → Bool
@@ -40,6 +39,6 @@ pub record Reaches (b : ℕ) (x : IndexColumn) (s : List ℕ) (valid p n : ℕ) 
   pub width : is_number_width x.indices.width ≡ true
   pub numbered : (p + n) * x.indices.width ≤ length x.«data»
   pub few : (0 < n) × (n ≤ 8) × (p + n ≤ max_rows)
-  pub small : length s ≤ max_bytes
   pub some : b < 8 * length s
-  pub inside : (t : ℕ) → t < n → bit_in valid t ≡ true → b + number_at x.indices.width x.«data» (p + t) < 8 * length s
+  pub inside : (t : ℕ) → t < n → bit_in valid t ≡ true
+      → (b + number_at x.indices.width x.«data» (p + t) < 8 * length s) × (b + number_at x.indices.width x.«data» (p + t) < 2 ^ 60)

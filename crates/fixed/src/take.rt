@@ -10,7 +10,7 @@ ghost use Rattle.gathers.specs.Ready.{InRange};
 ghost use Rattle.bitmaps.specs.Reach.{taken_bits, MaskThere};
 ghost use Rattle.fixed.specs.Blocked.{Blocked, taken_blocks};
 
-use bitmaps::bit::{BooleanBuffer, take_bits};
+use bitmaps::bit::BooleanBuffer;
 use blocks::valid::NullBuffer;
 use blocks::zeros::Zeros;
 use tables::column::IndexColumn;
@@ -89,5 +89,5 @@ pub fn take_boolean(
     requires room { bytes_for indices.now.indices.count ≤ length out_data.old }
     ensures { out_data.new ≡ overwrite (taken_bits values.now.values.now values.now.offset (index_column_of indices.now) valid.now) out_data.old }
 {
-    take_bits(values, indices, valid, out_data);
+    values.take_bits(indices, valid, out_data);
 }

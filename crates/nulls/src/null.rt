@@ -8,9 +8,9 @@ ghost use Rattle.tables.specs.Columns.{index_column_of};
 ghost use Rattle.gathers.specs.Ready.{InRange};
 ghost use Rattle.nulls.specs.Nulls.{taken_validity, taken_nulls};
 
-use bitmaps::bit::{BooleanBuffer, take_bits};
+use bitmaps::bit::{BooleanBuffer, validity_of};
 use bits::number::{low, write_u64};
-use buffers::bit::{count_set_bits, pack_bits};
+use buffers::bit::count_set_bits;
 use tables::column::IndexColumn;
 
 // The word whose lowest bits are ones, as many as are left. A test, and not a shift by `64 - left.min(64)`: so 2,048 rows take 363 instructions on x86-64
@@ -58,15 +58,10 @@ fn take_validity(validity: &BooleanBuffer<'_>, indices: &IndexColumn<'_>, out_va
     ensures { out_validity.new ≡ overwrite (taken_validity validity.now.values.now validity.now.offset (index_column_of indices.now)) out_validity.old }
 {
     if !validity.values.is_empty() {
-        take_bits(validity, indices, &[], out_validity);
+        validity.take_bits(indices, &[], out_validity);
         return;
     }
-    pack_bits(
-        indices.validity,
-        indices.indices.validity_bit as usize,
-        indices.indices.count as usize,
-        out_validity,
-    );
+    validity_of(indices).pack(out_validity);
 }
 
 // Writes the validity of the taken rows, and counts the null ones. Where neither the rows nor the indices have one, there are none to count.
@@ -82,7 +77,7 @@ pub fn take_nulls(
     ensures validity_stored { out_validity.new ≡ overwrite (taken_validity validity.now.values.now validity.now.offset (index_column_of indices.now)) out_validity.old }
 {
     let count = indices.indices.count as usize;
-    if validity.values.is_empty() & indices.validity.is_empty() {
+    if validity.values.is_empty() && indices.validity.is_empty() {
         set_bits(count, out_validity);
         return 0;
     }

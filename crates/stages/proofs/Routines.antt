@@ -73,12 +73,13 @@ module _ (c : Column) (x : IndexColumn) (r : Ready c x) where
   -- ---- validity
 
   pub validity-held : is_absent c.validity ≡ false → HoldsBits c.table.validity_bit c.table.rows c.validity
-  validity-held present = record {
-    small =
-        ltb-false max_bytes (length c.validity)
-        (or-false (ltb max_bytes (length c.validity)) (not (is_absent c.validity) && ltb max_bit c.table.validity_bit) facts.validity_limit).0;
-    there = ltb-false (length c.validity) (bytes_for (c.table.validity_bit + c.table.rows)) (rw present at facts.validity_fits);
-  }
+  validity-held present =
+      let v = c.validity in
+      let small : length v ≤ max_bytes =
+      ltb-false max_bytes (length v) (or-false (ltb max_bytes (length v)) (not (is_absent v) && ltb max_bit c.table.validity_bit) facts.validity_limit).0 in
+      let there : bytes_for (c.table.validity_bit + c.table.rows) ≤ length v =
+      ltb-false (length v) (bytes_for (c.table.validity_bit + c.table.rows)) (rw present at facts.validity_fits) in
+      record { small = omega (arith, small, there); there = there }
 
   pub validity-stored : (s : List ℕ) {t : List ℕ} → t ≡ overwrite (pack x.indices.count (taken_bit_valid c.validity c.table.validity_bit x)) s
       → t ≡ overwrite (validity_bytes v) s
@@ -90,10 +91,10 @@ module _ (c : Column) (x : IndexColumn) (r : Ready c x) where
   -- the bits of a column of them
   module _ (bits : layout_at c ≡ BitMap) where
     pub data-held : HoldsBits c.table.data_bit c.table.rows c.«data»
-    data-held = record {
-      small = facts.«data»;
-      there = ltb-false (length c.«data») (bytes_for (c.table.data_bit + c.table.rows)) (rw bits at facts.data_fit);
-    }
+    data-held =
+        let there : bytes_for (c.table.data_bit + c.table.rows) ≤ length c.«data» =
+        ltb-false (length c.«data») (bytes_for (c.table.data_bit + c.table.rows)) (rw bits at facts.data_fit) in
+        record { small = omega (arith, facts.«data», there); there = there }
 
   -- ---- values, gathered by the validity that was written
 

@@ -4,8 +4,8 @@ use Rattle.bits.specs.Bits.{pack_bytes, valid_at}
 use Rattle.bits.specs.Bytes.{overwrite}
 use Rattle.tables.specs.Columns.{index_column_of}
 use Rattle.gathers.specs.Buffers.{taken_bit}
-use Rattle.bitmaps.proofs.bit.take_reached.Given as goal
+use Rattle.bitmaps.proofs.bit.BooleanBuffer.take_reached.Given as goal
 
 abbrev pub invariant-loop-k : goal.invariant-loop-k
 invariant-loop-k l =
-    l.out ≡ overwrite (pack_bytes l.k (λ p. nat_lt p l.count && (taken_bit l.src l.bit_offset (index_column_of l.fn.indices) p && valid_at l.mask 0 p))) l.initial.out
+    l.out ≡ overwrite (pack_bytes l.k (λ p. nat_lt p l.count && (taken_bit l.self.values.now l.self.offset (index_column_of l.fn.indices) p && valid_at l.mask 0 p))) l.initial.out
