@@ -23,8 +23,7 @@ pub fn copy_64(src: &[u8], dst: &mut [u8], p: usize)
     requires { (p + 64 ≤ length src.now) × (p + 64 ≤ length dst.old) }
     ensures { dst.new ≡ overwrite_at p (part p 64 src.now) dst.old }
 {
-    copy_ends::<8>(src, dst, p, 16);
-    copy_ends::<8>(src, dst, p + 16, 16);
-    copy_ends::<8>(src, dst, p + 32, 16);
-    copy_ends::<8>(src, dst, p + 48, 16);
+    for k in 0..4 {
+        copy_ends::<8>(src, dst, p + 16 * k, 16);
+    }
 }

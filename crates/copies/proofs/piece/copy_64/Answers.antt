@@ -1,15 +1,14 @@
--- Four times 16 bytes, one right after the other.
-use Rattle.std.proofs.Common.{arith}
+-- A turn copies 16 bytes right after those before.
+use Rattle.std.proofs.Common.{◌≡◌, ◌+◌, ◌*◌, arith}
 use Rattle.bits.proofs.Copies.{carried-next}
 use Rattle.copies.proofs.piece.copy_64.Goals as goal
 
-pub returns : goal.returns
-returns c =
-    let p = c.args.p in
-    let s = c.args.src.now in
-    let d = c.args.dst.now in
-    carried-next 48 16 p s d (omega (arith, c.requires)) (omega (arith, c.requires))
-    (carried-next 32 16 p s d (omega (arith, c.requires)) (omega (arith, c.requires))
-    (carried-next 16 16 p s d (omega (arith, c.requires)) (omega (arith, c.requires)) c.copy_ends.ensures c.copy_ends-2.ensures)
-    c.copy_ends-3.ensures)
-    c.copy_ends-4.ensures
+pub loop-k-preserved : goal.loop-k-preserved
+loop-k-preserved c =
+    let at = c.loop-k in
+    let next : 16 * (at.k + 1) ≡ 16 * at.k + 16 = omega arith in
+    record {
+      copied =
+          rw next
+          (carried-next (16 * at.k) 16 c.args.p c.args.src.now c.args.dst.now (omega (arith, c.requires)) (omega (arith, c.requires)) at.invariant.copied c.copy_ends.ensures);
+    }
