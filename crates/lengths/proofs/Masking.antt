@@ -8,12 +8,18 @@ use native.Mathlib.Numerals.{add-one}
 use native.Mathlib.Omega.{arith}
 use lib.Bits.{bit_and, and_le_r}
 use lib.ListN.{length}
+use Rattle.std.specs.Int.{from_bool}
 use Rattle.bits.specs.Numbers.{number_at}
 use Rattle.bits.specs.Bits.{bit_value, bit_at, valid_at}
 use Rattle.bits.proofs.Tests.{and_right}
 use Rattle.bits.proofs.Bits.{bit_value-lt, bit-and, valid_at-absent, valid_at-present}
 use Rattle.lengths.specs.declared.row.Taken.{Taken}
 use Rattle.lengths.specs.Entries.{Selection, row_number, is_selected, is_shown, taken_row, entries_at, SelectionThere, EntriesThere}
+
+-- a bit that was read, as a number
+pub bit_number : (b : Bool) {t : Bool} {v : ℕ} → v ≡ from_bool t → t ≡ b → v ≡ bit_value b
+bit_number true e d = rw d at e
+bit_number false e d = rw d at e
 
 -- a number that a bit masks, with the bit
 masked : (t : Bool) (n : ℕ) {r v : ℕ} → v ≡ bit_value t → r ≡ n * v → record { row = r; valid = v } ≡ taken_row t n

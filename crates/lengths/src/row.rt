@@ -53,12 +53,12 @@ impl Selection<'_> {
         requires inside { j < self.now.count }
         ensures { result ≡ taken_row (is_shown (selection_of self.now) j) (row_number (selection_of self.now) j) }
     {
-        let v = is_valid(self.index_validity, self.index_bit, j);
+        let v = usize::from(is_valid(self.index_validity, self.index_bit, j));
         let r = number_at(self.index_data, w, j) as usize * v;
         if self.validity.is_empty() {
             return Taken { row: r, valid: v };
         }
-        let u = get_bit(self.validity, self.bit + r) & v;
+        let u = usize::from(get_bit(self.validity, self.bit + r)) & v;
         Taken {
             row: r * u,
             valid: u,
@@ -84,7 +84,7 @@ impl<const OW: usize> Shown<'_, OW> {
         requires { j < self.now.count }
         ensures { result ≡ shown_entries (shown_of OW self.now) j }
     {
-        let v = get_bit(self.out_validity, j);
+        let v = usize::from(get_bit(self.out_validity, j));
         let row = number_at(self.index_data, self.index_width, j) as usize * v;
         entries_of(self.offsets, OW, Taken { row, valid: v })
     }

@@ -6,12 +6,12 @@ use Prim.Native.Nat.{ℕ, ◌+◌, ◌*◌, ◌≤◌, ◌<◌}
 use native.Mathlib.Omega.{arith}
 use lib.Dec.{leb}
 use lib.ListN.{length}
-use borrow.Author.Tests.{le-leb, lt-leb, eq-eqb, ne_eqb}
+use borrow.Author.Tests.{le-leb, lt-leb}
 use Rattle.std.specs.Prelude.{None, Some}
 use Rattle.std.proofs.lemmas.Option.{none-some, same_Some}
 use Rattle.bits.specs.Sequences.{any, first}
 use Rattle.bits.specs.Numbers.{number_at, is_number_width}
-use Rattle.bits.specs.Bits.{bit_value, valid_at}
+use Rattle.bits.specs.Bits.{valid_at}
 use Rattle.tables.specs.Columns.{IndexColumn, index_valid, index}
 use Rattle.tables.specs.Answers.{accept, passes}
 use Rattle.tables.specs.Refusals.{index_refusal}
@@ -21,7 +21,7 @@ use Rattle.range.specs.Looked.{is_too_narrow, looked_at}
 use Rattle.range.specs.Scanned.{block_of, scan_start, Scannable}
 use Rattle.bits.proofs.Tests.{and-false-right}
 use Rattle.bits.proofs.Sequences.{any_none}
-use Rattle.tables.proofs.There.{index-there, index_number, index_read, index-valid-read}
+use Rattle.tables.proofs.There.{index-there, index_number, index_read, index-valid}
 use Rattle.tables.proofs.Facts.{IndexFormed, index-formed}
 use Rattle.gathers.proofs.Stages.{range-accepted}
 use Rattle.range.proofs.Numbers.{before-block}
@@ -31,12 +31,12 @@ module _ (n : ℕ) (x : IndexColumn) (j : ℕ) where
   pub below : {w r : ℕ} → x.indices.width ≡ w → r ≡ number_at w x.«data» j → r < n → is_outside n x j ≡ false
   below e d h = and-false-right (index_valid x j) (lt-leb n (index x j) (omega (arith, index_read x j e d)))
 
-  module _ {b : ℕ} (v : b ≡ bit_value (valid_at x.validity x.indices.validity_bit j)) where
-    pub null : (b ≡ 1 → ⊥) → is_outside n x j ≡ false
-    null h = rw (index-valid-read x j v (ne_eqb b 1 h))
+  module _ {b : Bool} (v : b ≡ valid_at x.validity x.indices.validity_bit j) where
+    pub null : b ≡ false → is_outside n x j ≡ false
+    null h = rw (index-valid x j ∙ sym v ∙ h)
 
-    pub found : {w r : ℕ} → x.indices.width ≡ w → r ≡ number_at w x.«data» j → n ≤ r → b ≡ 1 → is_outside n x j ≡ true
-    found e d h t = rw (index-valid-read x j v (eq-eqb b 1 t)) (le-leb n (index x j) (omega (arith, index_read x j e d)))
+    pub found : {w r : ℕ} → x.indices.width ≡ w → r ≡ number_at w x.«data» j → n ≤ r → b ≡ true → is_outside n x j ≡ true
+    found e d h t = rw (index-valid x j ∙ sym v ∙ t) (le-leb n (index x j) (omega (arith, index_read x j e d)))
 
 -- where no number is, no index is
 pub none-outside : (n : ℕ) (x : IndexColumn) (m : ℕ) → any m (λ j. leb n (number_at x.indices.width x.«data» j)) ≡ false

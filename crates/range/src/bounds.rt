@@ -34,9 +34,7 @@ fn scan_from<const W: usize>(rows: u64, indices: &IndexColumn<'_>, from: usize) 
     };
     let validity_bit = indices.indices.validity_bit as usize;
     for j in from..indices.indices.count as usize {
-        if rows <= number_at(indices.data, W, j)
-            && is_valid(indices.validity, validity_bit, j) == 1
-        {
+        if rows <= number_at(indices.data, W, j) && is_valid(indices.validity, validity_bit, j) {
             scanned = Scanned {
                 checked: Err(Refusal::Range { place: j as u64 }),
                 looked: j as u64 + 1,

@@ -10,7 +10,7 @@ use lib.Dec.{eqb, ltb}
 use lib.ListN.{length}
 use borrow.Author.Tests.{lt-ltb, le-ltb, ltb-true, ne_eqb, eqb-true}
 use Rattle.bits.specs.Numbers.{number_at, is_number_width}
-use Rattle.bits.specs.Bits.{bit_value, is_absent, valid_at}
+use Rattle.bits.specs.Bits.{is_absent, valid_at}
 use Rattle.bits.specs.Bytes.{part}
 use Rattle.tables.specs.declared.table.Layout.TheVariants.{VariableWidth}
 use Rattle.tables.specs.declared.table.Kind.{Kind}
@@ -28,7 +28,6 @@ use Rattle.tables.specs.Refusals.{max_rows, column_refusal, WellFormed}
 use Rattle.tables.specs.Rows.{rows_of}
 use Rattle.reader.specs.Row.{has_row, read_row, row_start, place_of}
 use Rattle.reader.specs.Found.{row_found}
-use Rattle.bits.proofs.Bits.{bit_test}
 use Rattle.bits.proofs.Tests.{and-true}
 use Rattle.tables.proofs.Facts.{formed, passed-well-formed}
 use Rattle.tables.proofs.Offsets.{VariableFacts, variable-facts, below, rises}
@@ -95,12 +94,10 @@ module _ (c : Column) (r : ℕ) where
       valid-bit : (rows_of c).valid r ≡ valid_at c.validity c.table.validity_bit r
       valid-bit = rw (rows_of-by c)
 
-      by-bit : valid_at c.validity c.table.validity_bit r ≡ has_row c r
+      pub by-bit : valid_at c.validity c.table.validity_bit r ≡ has_row c r
       unfolding has_row
       by-bit = rw (w, valid-bit, kind-three c.table.kind k, lt-ltb r c.table.rows h) refl
 
-      pub bit-decides : {x : ℕ} → x ≡ bit_value (valid_at c.validity c.table.validity_bit r) → eqb x 1 ≡ has_row c r
-      bit-decides e = ap (λ (x : ℕ). eqb x 1) e ∙ bit_test (valid_at c.validity c.table.validity_bit r) ∙ by-bit
 
   -- ---- where there is such a row
 

@@ -25,7 +25,7 @@ pub fn has_row(column: &Column<'_>, row: u64) -> bool
     if table.rows <= row {
         return false;
     }
-    is_valid(column.validity, table.validity_bit as usize, row as usize) == 1
+    is_valid(column.validity, table.validity_bit as usize, row as usize)
 }
 
 // The row's bytes, where they lie, if there is such a row and it is valid.

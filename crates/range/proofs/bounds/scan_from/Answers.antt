@@ -10,7 +10,7 @@ use Rattle.gathers.proofs.Stages.{range-accepted, range-refused}
 use Rattle.range.proofs.Scan.{below, null, found, number-there, none-outside}
 use Rattle.range.proofs.Looked.{looked-all, looked-through}
 use Rattle.range.proofs.bounds.scan_from.Goals as goal
-use Rattle.range.proofs.bounds.scan_from.Goals.{else-rows-number_at-via-then-rows-number_at+else-is_valid-eq1, else-rows-number_at-via-else-rows-number_at}
+use Rattle.range.proofs.bounds.scan_from.Goals.{else-rows-number_at-via-then-rows-number_at+else-is_valid, else-rows-number_at-via-else-rows-number_at}
 
 pub loop-j-init : goal.loop-j-init
 loop-j-init g c =
@@ -30,7 +30,7 @@ loop-j-preserved g c =
     let n = c.args.rows in
     let x = index_column_of c.args.indices.now in
     let good : is_outside n x at.j ≡ false = elim c.else-rows-number_at.branch [
-      | else-rows-number_at-via-then-rows-number_at+else-is_valid-eq1 w ↦ null n x at.j w.is_valid.ensures (λ one. omega arith)
+      | else-rows-number_at-via-then-rows-number_at+else-is_valid w ↦ null n x at.j w.is_valid.ensures w.if-is_valid.false
       | else-rows-number_at-via-else-rows-number_at w ↦ below n x at.j c.requires.width c.number_at.ensures (omega arith)
     ] in
     record { none = at.invariant.none; before = below_more _ _ at.invariant.before good }
@@ -45,13 +45,13 @@ returns-after-loop-j g c =
       ap (λ (s : Scanned). s.looked) at.invariant.none ∙ sym (looked-all n x c.requires.scannable.wide none),
     )
 
-pub returns-then-is_valid-eq1 : goal.returns-then-is_valid-eq1
-returns-then-is_valid-eq1 g c =
+pub returns-then-is_valid : goal.returns-then-is_valid
+returns-then-is_valid g c =
     let at = c.loop-j in
     let inside = c.loop-j-test.true in
     let n = c.args.rows in
     let x = index_column_of c.args.indices.now in
-    let bad = found n x at.j c.is_valid.ensures c.requires.width c.number_at.ensures (omega arith) (omega arith) in (
+    let bad = found n x at.j c.is_valid.ensures c.requires.width c.number_at.ensures (omega arith) c.if-is_valid.true in (
       sym (range-refused n x at.j inside bad at.invariant.before),
       sym (looked-through n x c.requires.scannable.wide at.j inside bad at.invariant.before),
     )

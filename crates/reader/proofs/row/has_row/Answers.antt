@@ -1,6 +1,6 @@
 -- Each test that fails says that there is no such row.
 use Rattle.std.proofs.Common.{sym, ◌∙◌}
-use Rattle.reader.proofs.Rows.{unfit, other-kind, absent-row, row-bit, bit-decides}
+use Rattle.reader.proofs.Rows.{unfit, other-kind, absent-row, row-bit, by-bit}
 use Rattle.reader.proofs.row.has_row.Goals as goal
 
 pub returns-then-is_err : goal.returns-then-is_err
@@ -17,4 +17,4 @@ pub is_valid-requires : goal.is_valid-requires
 is_valid-requires c = row-bit _ _ _ c.check_table.ensures (sym c.if-is_err.ensures.value) c.in-VariableBytes.ensures c.if-table-row.false
 
 pub returns : goal.returns
-returns c = bit-decides _ _ _ c.check_table.ensures (sym c.if-is_err.ensures.value) c.in-VariableBytes.ensures c.if-table-row.false c.is_valid.ensures
+returns c = c.is_valid.ensures ∙ by-bit _ _ _ c.check_table.ensures (sym c.if-is_err.ensures.value) c.in-VariableBytes.ensures c.if-table-row.false
