@@ -16,92 +16,88 @@ use tables::column::Column;
 use tables::refusal::Refusal;
 use tables::table::{Kind, Layout};
 
-// Offset i. The width is a const parameter, so that of the widths of `number_at` one is left before the compiler chooses what it puts in line.
-fn offset_at<const W: usize>(offsets: &[u8], i: usize) -> u64
-    requires width { is_offset_width W ≡ true }
-    requires there { i * W + W ≤ length offsets.now }
-    ensures { result ≡ number_at W offsets.now i }
-{
-    number_at(offsets, W, i)
+// The offsets of so many rows, of W bytes each: arrow's `OffsetBuffer`. The width is a const parameter, so that of the widths of `number_at` one is left
+// before the compiler chooses what it puts in line.
+#[derive(Clone, Copy)]
+struct OffsetBuffer<'a, const W: usize> {
+    bytes: &'a [u8],
+    rows: usize,
+    ghost held: { Offsets W rows bytes.now },
 }
 
-// Some of the eight offsets after offset i is below the one before. Written out, since `windows(2)` leaves at each offset: 0.17 ns an offset in place of 0.10
-// at width 4 (docs/PROVING.md).
-fn falls_in_eight<const W: usize>(offsets: &[u8], rows: usize, i: usize) -> bool
-    requires offsets { Offsets W rows offsets.now }
-    requires eight_left { i + 8 ≤ rows }
-    ensures { result ≡ any 8 (λ k. falls (number_at W offsets.now) (i + k)) }
-{
-    let a = offset_at::<W>(offsets, i);
-    let b = offset_at::<W>(offsets, i + 1);
-    let c = offset_at::<W>(offsets, i + 2);
-    let d = offset_at::<W>(offsets, i + 3);
-    let e = offset_at::<W>(offsets, i + 4);
-    let f = offset_at::<W>(offsets, i + 5);
-    let g = offset_at::<W>(offsets, i + 6);
-    let h = offset_at::<W>(offsets, i + 7);
-    let k = offset_at::<W>(offsets, i + 8);
-    (b < a) | (c < b) | (d < c) | (e < d) | (f < e) | (g < f) | (h < g) | (k < h)
-}
+impl<const W: usize> OffsetBuffer<'_, W> {
+    fn offset_at(&self, i: usize) -> u64
+        requires { i ≤ self.now.rows }
+        ensures { result ≡ number_at W self.now.bytes.now i }
+    {
+        number_at(self.bytes, W, i)
+    }
 
-// Some offset is below the one before: eight a turn, then single ones.
-fn falls_by<const W: usize>(offsets: &[u8], rows: usize) -> bool
-    requires { Offsets W rows offsets.now }
-    ensures { result ≡ any rows (falls (number_at W offsets.now)) }
-{
-    let turns = rows / 8;
-    for turn in 0..turns {
-        if falls_in_eight::<W>(offsets, rows, turn * 8) {
-            return true;
+    // Some of the eight offsets after offset i is below the one before. No turn leaves early, as `windows(2)` does (0.17 ns an offset in place of 0.10 at width
+    // 4, docs/PROVING.md).
+    fn falls_in_eight(&self, i: usize) -> bool
+        requires { i + 8 ≤ self.now.rows }
+        ensures { result ≡ any 8 (λ k. falls (number_at W self.now.bytes.now) (i + k)) }
+    {
+        let mut before = self.offset_at(i);
+        let mut falls = false;
+        for k in 0..8 {
+            let offset = self.offset_at(i + k + 1);
+            falls |= offset < before;
+            before = offset;
         }
+        falls
     }
-    for i in turns * 8..rows {
-        let before = offset_at::<W>(offsets, i);
-        if offset_at::<W>(offsets, i + 1) < before {
-            return true;
+
+    // Some offset is below the one before: eight a turn, then single ones.
+    fn falls(&self) -> bool
+        ensures { result ≡ any self.now.rows (falls (number_at W self.now.bytes.now)) }
+    {
+        let turns = self.rows / 8;
+        for turn in 0..turns {
+            if self.falls_in_eight(turn * 8) {
+                return true;
+            }
         }
+        for i in turns * 8..self.rows {
+            if self.offset_at(i + 1) < self.offset_at(i) {
+                return true;
+            }
+        }
+        false
     }
-    false
+
+    // The place of the first bad offset. Each is looked at only where some is bad. A loop: `find`, by a test that reads the offset before again, takes 10
+    // instructions an offset on x86-64 in place of 9, and its closure would need clauses of its own.
+    fn first_bad(&self, most: u64) -> Option<u64>
+        requires { most ≤ max_bytes }
+        ensures { result ≡ first_found (suc self.now.rows) (is_bad W (number_at W self.now.bytes.now) most) }
+    {
+        if !self.falls() && self.offset_at(self.rows) <= most {
+            return None;
+        }
+        let mut before = 0;
+        for i in 0..=self.rows {
+            let offset = self.offset_at(i);
+            if (offset < before) | (offset > most) {
+                return Some(i as u64);
+            }
+            before = offset;
+        }
+        None
+    }
 }
 
-// The same, at the width that the column states.
-fn falls_somewhere(offsets: &[u8], w: usize, rows: usize) -> bool
-    requires { Offsets w rows offsets.now }
-    ensures { result ≡ any rows (falls (number_at w offsets.now)) }
-{
-    if w == 4 {
-        return falls_by::<4>(offsets, rows);
-    }
-    falls_by::<8>(offsets, rows)
-}
-
-// The place of the first bad offset, by looking at each.
-fn find_bad(offsets: &[u8], w: usize, rows: usize, most: u64) -> Option<u64>
-    requires offsets { Offsets w rows offsets.now }
+// The same at the width that the column states: a number comes to a const parameter only by an arm.
+fn bad_offset(bytes: &[u8], w: usize, rows: usize, most: u64) -> Option<u64>
+    requires offsets { Offsets w rows bytes.now }
     requires small { most ≤ max_bytes }
-    ensures { result ≡ first_found (suc rows) (is_bad w (number_at w offsets.now) most) }
+    ensures { result ≡ first_found (suc rows) (is_bad w (number_at w bytes.now) most) }
 {
-    let mut before: u64 = 0;
-    for i in 0..rows + 1 {
-        let offset = number_at(offsets, w, i);
-        if (offset < before) | (offset > most) {
-            return Some(i as u64);
-        }
-        before = offset;
+    match w {
+        4 => OffsetBuffer::<4> { bytes, rows }.first_bad(most),
+        _ => OffsetBuffer::<8> { bytes, rows }.first_bad(most),
     }
-    None
-}
-
-// The same, by the pass that finds all offsets good.
-fn bad_offset(offsets: &[u8], w: usize, rows: usize, most: u64) -> Option<u64>
-    requires offsets { Offsets w rows offsets.now }
-    requires small { most ≤ max_bytes }
-    ensures { result ≡ first_found (suc rows) (is_bad w (number_at w offsets.now) most) }
-{
-    if falls_somewhere(offsets, w, rows) | (number_at(offsets, w, rows) > most) {
-        return find_bad(offsets, w, rows, most);
-    }
-    None
 }
 
 // How many entries of `unit` bytes n bytes hold. By literals: a division of 64 bits by any other number is a call on a core of 32 bits.
