@@ -1,15 +1,14 @@
 -- The test of one index of the range scan: the number first, and the validity bit where the number is out of range. Indices that are passed over by
 -- their numbers alone. Assumes nothing.
 use mathlib.Core.Path.{◌≡◌, refl, sym, ap, ◌∙◌, subst}
-use mathlib.Core.Bool.{Bool, true, false, cond}
+use mathlib.Core.Bool.{true, false}
 use Prim.Native.Nat.{ℕ, ◌+◌, ◌*◌, ◌≤◌, ◌<◌}
 use native.Mathlib.Omega.{arith}
 use lib.Dec.{leb}
 use lib.ListN.{length}
 use borrow.Author.Tests.{le-leb, lt-leb}
 use Rattle.std.specs.Prelude.{None, Some}
-use Rattle.std.proofs.lemmas.Option.{none-some, same_Some}
-use Rattle.bits.specs.Sequences.{any, first}
+use Rattle.bits.specs.Sequences.{any}
 use Rattle.bits.specs.Numbers.{number_at, is_number_width}
 use Rattle.bits.specs.Bits.{valid_at}
 use Rattle.tables.specs.Columns.{IndexColumn, index_valid, index}
@@ -18,14 +17,14 @@ use Rattle.tables.specs.Refusals.{index_refusal}
 use Rattle.gathers.specs.Gather.{is_outside}
 use Rattle.gathers.specs.Stages.{range_refusal}
 use Rattle.range.specs.Looked.{is_too_narrow, looked_at}
-use Rattle.range.specs.Scanned.{block_of, scan_start, Scannable}
+use Rattle.range.specs.Scanned.{scan_start, Scannable}
 use Rattle.bits.proofs.Tests.{and-false-right}
 use Rattle.bits.proofs.Sequences.{any_none}
 use Rattle.tables.proofs.There.{index-there, index_number, index_read, index-valid}
 use Rattle.tables.proofs.Facts.{IndexFormed, index-formed}
 use Rattle.gathers.proofs.Stages.{range-accepted}
-use Rattle.range.proofs.Numbers.{before-block}
-use Rattle.range.proofs.Looked.{looked-none}
+use Rattle.range.proofs.Numbers.{before-block, nowhere}
+use Rattle.range.proofs.Looked.{looked-none, looked-all}
 
 module _ (n : ℕ) (x : IndexColumn) (j : ℕ) where
   pub below : {w r : ℕ} → x.indices.width ≡ w → r ≡ number_at w x.«data» j → r < n → is_outside n x j ≡ false
@@ -44,16 +43,6 @@ pub none-outside : (n : ℕ) (x : IndexColumn) (m : ℕ) → any m (λ j. leb n 
 none-outside n x m e j h =
     and-false-right (index_valid x j) (ap (leb n) (index_number x j) ∙ any_none m (λ j. leb n (number_at x.indices.width x.«data» j)) e j h)
 
--- ---- where it starts
-
-started : (t : Bool) {at from : ℕ} → Some from ≡ cond t None (Some at) → (t ≡ false) × (from ≡ at)
-started true h = absurd (none-some _ (sym h))
-started false h = (refl, same_Some _ _ h)
-
-nowhere : (t : Bool) (at : ℕ) → None ≡ cond t None (Some at) → t ≡ true
-nowhere true at h = refl
-nowhere false at h = absurd (none-some at h)
-
 -- ---- by another name of the width
 
 module _ (x : IndexColumn) {w : ℕ} (e : x.indices.width ≡ w) where
@@ -67,28 +56,27 @@ module _ (x : IndexColumn) {w : ℕ} (e : x.indices.width ≡ w) where
       let f : IndexFormed x = index-formed x t in
       subst (λ (v : ℕ). (is_number_width v ≡ true) × (x.indices.count * v ≤ length x.«data»)) e (f.width, f.data_fit)
 
-  -- as it was tested
-  pub narrow_at : (n : ℕ) {t b : Bool} → t ≡ is_too_narrow n w → t ≡ b → is_too_narrow n x.indices.width ≡ b
-  narrow_at n d h = ap (is_too_narrow n) e ∙ sym d ∙ h
+  module _ (n : ℕ) where
+    -- numbers of the width name a row each: the scan lets pass, and looks at none
+    pub unscanned : (is_too_narrow n w ≡ true) × ((j : ℕ) → number_at w x.«data» j < n) → (accept ≡ range_refusal n x) × (0 ≡ looked_at n x)
+    unscanned (narrow, few) =
+        (sym (range-accepted n x (λ j l. below n x j e refl (few j))), sym (looked-none n x (ap (is_too_narrow n) e ∙ narrow)))
 
-  -- where the scan starts nowhere, since numbers of the width are below the row count, it lets pass and looks at none
-  pub unscanned : (n : ℕ) → None ≡ scan_start n w x.indices.count x.«data» → (is_too_narrow n w ≡ true → (j : ℕ) → number_at w x.«data» j < n)
-      → (accept ≡ range_refusal n x) × (0 ≡ looked_at n x)
-  unscanned n h few =
-      let narrow = nowhere (is_too_narrow n w) _ h in
-      (sym (range-accepted n x (λ j l. below n x j e refl (few narrow j))), sym (looked-none n x (ap (is_too_narrow n) e ∙ narrow)))
+    module _ (h : is_too_narrow n w ≡ false) where
+      -- no number names no row: the scan lets pass, and looks at all
+      pub scanned : None ≡ scan_start n w x.indices.count x.«data» → (accept ≡ range_refusal n x) × (x.indices.count ≡ looked_at n x)
+      scanned s =
+          let m : ℕ = x.indices.count in
+          let none = none-outside n x m (subst (λ (v : ℕ). any m (λ j. leb n (number_at v x.«data» j)) ≡ false) (sym e) (nowhere m _ s)) in
+          (sym (range-accepted n x none), sym (looked-all n x (ap (is_too_narrow n) e ∙ h) none))
 
-  -- where it starts at some place, the tests before it have told this
-  pub scannable : (n : ℕ) {from : ℕ} → passes (index_refusal x) ≡ true → Some from ≡ scan_start n w x.indices.count x.«data» → Scannable n x from
-  scannable n p h =
-      let m : ℕ = x.indices.count in
-      let start = started (is_too_narrow n w) h in
-      let before = before-block m (λ j. leb n (number_at x.indices.width x.«data» j)) in
-      let at : block_of m (first m (λ j. leb n (number_at x.indices.width x.«data» j))) ≡ block_of m (first m (λ j. leb n (number_at w x.«data» j))) =
-      ap (λ (v : ℕ). block_of m (first m (λ j. leb n (number_at v x.«data» j)))) e in
-      subst (Scannable n x) (at ∙ sym start.1) (record {
-        tested = p;
-        wide = ap (is_too_narrow n) e ∙ start.0;
-        inside = before.0;
-        before = before.1;
-      })
+      -- where it starts at some place, the tests before it have told this
+      pub scannable : {from : ℕ} → passes (index_refusal x) ≡ true → Some from ≡ scan_start n w x.indices.count x.«data» → Scannable n x from
+      scannable {from = from} p s =
+          let before = before-block x.indices.count _ s in
+          record {
+            tested = p;
+            wide = ap (is_too_narrow n) e ∙ h;
+            inside = before.0;
+            before = subst (λ (v : ℕ). any from (λ j. leb n (number_at v x.«data» j)) ≡ false) (sym e) before.1;
+          }

@@ -1,5 +1,5 @@
 -- What the parts of the range scan ask and tell.
-use Rattle.std.specs.Prelude.{◌≡◌, true, false, if◌then◌else◌, ℕ, List, Option, None, Some, ◌*◌, ◌/◌, ◌≤◌, nat_le, nat_lt}
+use Rattle.std.specs.Prelude.{◌≡◌, true, false, if◌then◌else◌, ℕ, Bool, List, Option, None, Some, ◌*◌, ◌/◌, ◌≤◌, nat_le, nat_lt}
 use Rattle.bits.specs.Sequences.{any, first}
 use Rattle.bits.specs.Numbers.{number_at}
 use Rattle.tables.specs.Columns.{IndexColumn}
@@ -10,14 +10,13 @@ use Rattle.gathers.specs.Stages.{range_refusal}
 use Rattle.range.specs.declared.bounds.Scanned.{Scanned}
 use Rattle.range.specs.Looked.{is_too_narrow, looked_at}
 
--- numbers are compared in blocks of 512: the first number of the block that number j of m is in; m where it is none of them
-abbrev pub block_of : ℕ → ℕ → ℕ
-block_of m j = if nat_lt j m then j / 512 * 512 else m
+-- numbers are compared in blocks of 512: where the block of the first of m that passes starts; none where none passes
+abbrev pub first_block : ℕ → (ℕ → Bool) → Option ℕ
+first_block m p = if nat_lt (first m p) m then Some (first m p / 512 * 512) else None
 
--- the scan of count numbers of w bytes starts at the block of the first that names none of n rows, if only under a null index; at none of them where none
--- does. Where numbers of that width can't be outside, there is nothing to scan for
+-- the scan of count numbers of w bytes starts at the block of the first that names none of n rows, if only under a null index
 abbrev pub scan_start : ℕ → ℕ → ℕ → List ℕ → Option ℕ
-scan_start n w count s = if is_too_narrow n w then None else Some (block_of count (first count (λ j. nat_le n (number_at w s j))))
+scan_start n w count s = first_block count (λ j. nat_le n (number_at w s j))
 
 -- an index column that passed its tests is to be scanned from a place on: its width holds the row count n, and no number before the place is outside
 pub record Scannable (n : ℕ) (x : IndexColumn) (from : ℕ) : Type 0 where

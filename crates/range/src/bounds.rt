@@ -9,7 +9,7 @@ ghost use Rattle.gathers.specs.Stages.{range_refusal};
 ghost use Rattle.range.specs.Looked.{looked_at};
 ghost use Rattle.range.specs.Scanned.{Scannable, ScannedOf};
 
-use crate::outside::block_outside;
+use crate::outside::Numbers;
 use bits::number::number_at;
 use buffers::bit::is_valid;
 use tables::column::IndexColumn;
@@ -28,34 +28,40 @@ fn scan_from<const W: usize>(rows: u64, indices: &IndexColumn<'_>, from: usize) 
     requires width { indices.now.indices.width ≡ W }
     ensures { ScannedOf rows (index_column_of indices.now) result }
 {
-    let mut scanned = Scanned {
-        checked: Ok(()),
-        looked: indices.indices.count,
-    };
+    let count = indices.indices.count;
     let validity_bit = indices.indices.validity_bit as usize;
-    for j in from..indices.indices.count as usize {
+    for j in from..count as usize {
         if rows <= number_at(indices.data, W, j) && is_valid(indices.validity, validity_bit, j) {
-            scanned = Scanned {
+            return Scanned {
                 checked: Err(Refusal::Range { place: j as u64 }),
                 looked: j as u64 + 1,
             };
-            break;
         }
     }
-    scanned
+    Scanned {
+        checked: Ok(()),
+        looked: count,
+    }
 }
 
-// The whole, at an index width. Where its numbers are too narrow to be outside, none is read. Else the scan starts at the first block with a number
-// outside, if only under a null index, and so no number is read beyond the block of the first index outside.
+// The whole, at an index width. Where every number of that width names a row, none is read. Else the scan starts at the first block with a number outside,
+// also where that stands under a null index. So no number is read beyond the block of the first index outside.
 fn check_bounds_at<const W: usize>(rows: u64, indices: &IndexColumn<'_>) -> Scanned
     requires index_passes { passes (index_refusal (index_column_of indices.now)) ≡ true }
     requires width { indices.now.indices.width ≡ W }
     ensures { ScannedOf rows (index_column_of indices.now) result }
 {
-    let Some(from) = block_outside::<W>(rows, indices.indices.count as usize, indices.data) else {
+    let count = indices.indices.count;
+    let Some(numbers) = Numbers::<W>::new(indices.data, count as usize, rows) else {
         return Scanned {
             checked: Ok(()),
             looked: 0,
+        };
+    };
+    let Some(from) = numbers.block_outside() else {
+        return Scanned {
+            checked: Ok(()),
+            looked: count,
         };
     };
     scan_from::<W>(rows, indices, from)

@@ -1,14 +1,20 @@
 -- Numbers too narrow to be outside are not read; else no number before the block is outside.
-use Rattle.range.proofs.Scan.{numbers-there, unscanned, scannable}
+use Rattle.std.proofs.Common.{arith}
+use Rattle.range.proofs.Scan.{numbers-there, unscanned, scanned, scannable}
 use Rattle.range.proofs.bounds.check_bounds_at.Goals as goal
 
-pub block_outside-requires : goal.block_outside-requires
-block_outside-requires g c =
-    let there = numbers-there _ c.requires.width c.requires.index_passes in
-    record { width = there.0; there = there.1 }
+pub new-requires : goal.new-requires
+new-requires g c = (omega arith, numbers-there _ c.requires.width c.requires.index_passes)
 
 pub returns-in_default : goal.returns-in_default
-returns-in_default g c = unscanned _ c.requires.width c.args.rows c.in_default.ensures.start c.in_default.ensures.below
+returns-in_default g c = unscanned _ c.requires.width c.args.rows c.in_default.ensures.none
+
+pub returns-in_default-block_outside : goal.returns-in_default-block_outside
+returns-in_default-block_outside g c =
+    let of = c.in-Some.ensures.some in
+    scanned _ c.requires.width c.args.rows of.3 (rw (of.0, of.1, of.2) at c.in_default-block_outside.ensures)
 
 pub scan_from-requires-clause-scannable : goal.scan_from-requires-clause-scannable
-scan_from-requires-clause-scannable g c = scannable _ c.requires.width c.args.rows c.requires.index_passes c.in-Some.ensures.start
+scan_from-requires-clause-scannable g c =
+    let of = c.in-Some.ensures.some in
+    scannable _ c.requires.width c.args.rows of.3 c.requires.index_passes (rw (of.0, of.1, of.2) at c.in-Some-block_outside.ensures)

@@ -1,9 +1,7 @@
 -- The first index whose number is out of range, where it is valid, is the first outside; where none is, none is.
-use Rattle.std.proofs.Common.{◌≡◌, false, ℕ, ◌<◌, refl, sym, ap, ◌∙◌, below_more, arith}
+use Rattle.std.proofs.Common.{◌≡◌, false, ℕ, ◌<◌, sym, below_more, arith}
 use Rattle.tables.specs.Columns.{index_column_of}
-use Rattle.tables.specs.Stages.{checked_numbers}
 use Rattle.gathers.specs.Gather.{is_outside}
-use Rattle.range.specs.declared.bounds.Scanned.{Scanned}
 use Rattle.tables.proofs.Facts.{index-formed}
 use Rattle.tables.proofs.There.{index-valid-there}
 use Rattle.gathers.proofs.Stages.{range-accepted, range-refused}
@@ -13,8 +11,7 @@ use Rattle.range.proofs.bounds.scan_from.Goals as goal
 use Rattle.range.proofs.bounds.scan_from.Goals.{else-rows-number_at-via-then-rows-number_at+else-is_valid, else-rows-number_at-via-else-rows-number_at}
 
 pub loop-j-init : goal.loop-j-init
-loop-j-init g c =
-    record { none = refl; before = none-outside c.args.rows (index_column_of c.args.indices.now) c.args.from c.requires.scannable.before }
+loop-j-init g c = none-outside c.args.rows (index_column_of c.args.indices.now) c.args.from c.requires.scannable.before
 
 pub number_at-requires : goal.number_at-requires
 number_at-requires g c =
@@ -33,17 +30,14 @@ loop-j-preserved g c =
       | else-rows-number_at-via-then-rows-number_at+else-is_valid w ↦ null n x at.j w.is_valid.ensures w.if-is_valid.false
       | else-rows-number_at-via-else-rows-number_at w ↦ below n x at.j c.requires.width c.number_at.ensures (omega arith)
     ] in
-    record { none = at.invariant.none; before = below_more _ _ at.invariant.before good }
+    below_more _ _ at.invariant good
 
-pub returns-after-loop-j : goal.returns-after-loop-j
-returns-after-loop-j g c =
-    let at = c.loop-j in
+pub returns : goal.returns
+returns g c =
     let n = c.args.rows in
     let x = index_column_of c.args.indices.now in
-    let none : (k : ℕ) → k < x.indices.count → is_outside n x k ≡ false = λ k h. at.invariant.before k (omega arith) in (
-      ap (λ (s : Scanned). checked_numbers s.checked) at.invariant.none ∙ sym (range-accepted n x none),
-      ap (λ (s : Scanned). s.looked) at.invariant.none ∙ sym (looked-all n x c.requires.scannable.wide none),
-    )
+    let none : (k : ℕ) → k < x.indices.count → is_outside n x k ≡ false = λ k h. c.loop-j.invariant k (omega arith) in
+    (sym (range-accepted n x none), sym (looked-all n x c.requires.scannable.wide none))
 
 pub returns-then-is_valid : goal.returns-then-is_valid
 returns-then-is_valid g c =
@@ -52,6 +46,6 @@ returns-then-is_valid g c =
     let n = c.args.rows in
     let x = index_column_of c.args.indices.now in
     let bad = found n x at.j c.is_valid.ensures c.requires.width c.number_at.ensures (omega arith) c.if-is_valid.true in (
-      sym (range-refused n x at.j inside bad at.invariant.before),
-      sym (looked-through n x c.requires.scannable.wide at.j inside bad at.invariant.before),
+      sym (range-refused n x at.j inside bad at.invariant),
+      sym (looked-through n x c.requires.scannable.wide at.j inside bad at.invariant),
     )

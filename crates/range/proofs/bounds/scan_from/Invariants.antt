@@ -1,12 +1,8 @@
--- Nothing is found yet, and no index below j is out of range.
+-- No index below j is out of range.
 use Rattle.std.proofs.Common.{◌≡◌, false, ℕ, ◌<◌}
-use Rattle.std.specs.Prelude.{Ok}
 use Rattle.tables.specs.Columns.{index_column_of}
 use Rattle.gathers.specs.Gather.{is_outside}
 use Rattle.range.proofs.bounds.scan_from.Given as goal
 
 abbrev pub invariant-loop-j : goal.invariant-loop-j
-invariant-loop-j g l = record {
-  none : l.scanned ≡ record { checked = Ok tt; looked = l.indices.indices.count };
-  before : (k : ℕ) → k < l.j → is_outside l.rows (index_column_of l.indices) k ≡ false;
-}
+invariant-loop-j g l = (k : ℕ) → k < l.j → is_outside l.rows (index_column_of l.indices) k ≡ false
