@@ -11,10 +11,10 @@ ghost use Rattle.tables.specs.Bounds.{Offsets, Sized, falls};
 ghost use Rattle.offsets.specs.Found.{first_found};
 
 use bits::number::number_at;
-use kinds::kind::layout_of;
+use kinds::kind::layout_at;
 use tables::column::Column;
 use tables::refusal::Refusal;
-use tables::table::{Kind, Layout};
+use tables::table::Layout;
 
 // The offsets of so many rows, of W bytes each: arrow's `OffsetBuffer`. The width is a const parameter, so that of the widths of `number_at` one is left
 // before the compiler chooses what it puts in line.
@@ -121,9 +121,7 @@ pub fn check_offsets(column: &Column<'_>) -> Result<(), Refusal>
     ensures { checked_numbers result ≡ offsets_refusal (column_of column.now) }
 {
     let table = column.table;
-    let kind = Kind::from(table.kind);
-    let layout = layout_of(kind, table);
-    let Layout::VariableWidth(unit) = layout else {
+    let Layout::VariableWidth(unit) = layout_at(table) else {
         return Ok(());
     };
     let most = entries_in(column.data.len() as u64, unit);
