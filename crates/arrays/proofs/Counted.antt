@@ -11,27 +11,25 @@ use lib.Dec.{eqb}
 use Rattle.bits.specs.Sequences.{sum}
 use Rattle.std.specs.Prelude.{Result, Ok, Err}
 use Rattle.std.proofs.lemmas.Result.{IfOk-at_ok}
-use Rattle.tables.specs.Stages.{Checked, checked_numbers}
+use Rattle.tables.specs.Stages.{checked_numbers}
 use Rattle.tables.specs.declared.refusal.Refusal.{Refusal}
 use Rattle.tables.specs.declared.table.Lengths.{Lengths}
 use Rattle.tables.specs.Columns.{Column, IndexColumn, lengths_none, lengths_together}
-use Rattle.tables.specs.Answers.{passes, refusal_numbers, Line, lines_of, first_of}
+use Rattle.tables.specs.Answers.{passes, Line, lines_of, first_of}
 use Rattle.tables.specs.Refusals.{max_rows, max_bytes}
 use Rattle.gathers.specs.Stored.{needed_lengths, joined_lengths}
 use Rattle.gathers.specs.Gather.{through_lines}
-use Rattle.gathers.specs.Ready.{InRange, Ready}
+use Rattle.gathers.specs.Ready.{InRange}
 use Rattle.batches.specs.Batch.{Batch, taken_from, batch_lines}
 use Rattle.arrays.specs.Told.{AllToldOf}
 use Rattle.bits.proofs.Sequences.{below_suc, sum-le, sum-const}
-use Rattle.tables.proofs.Stages.{refusing}
 use Rattle.tables.proofs.Lines.{none-met-passes, none-met-accepts, lines-pass, lines-refused}
 use Rattle.gathers.proofs.Stages.{through-refusing}
 use Rattle.gathers.proofs.Joining.{needed-small}
 use Rattle.batches.proofs.Refused.{columns-refusing}
 use Rattle.batches.proofs.Passed.{few-columns, rows-equal, column-ready}
-use Rattle.described.specs.Told.{through_range, MeasuredOf, ToldOf}
-use Rattle.described.proofs.Columns.{lets-pass}
-use Rattle.described.proofs.Placed.{through-stopped, through-ready, through-measured}
+use Rattle.described.specs.Told.{ToldOf}
+use Rattle.described.proofs.Columns.{lets-pass, refuses}
 
 -- the first i columns pass through overflow, and these are the lengths that they need together
 pub record Counted (b : Batch) (x : IndexColumn) (i : ℕ) (joined : Lengths) : Type 0 where
@@ -42,10 +40,6 @@ pub record Counted (b : Batch) (x : IndexColumn) (i : ℕ) (joined : Lengths) : 
 -- a number that is not 0
 positive : {i : ℕ} → eqb i 0 ≡ false → 0 < i
 positive {i} e = let n : (i ≡ 0 → ⊥) = λ z. true≢false (sym (eq-eqb i 0 z) ∙ e) in omega arith
-
--- refusals 1 to 5 let pass
-pub ready-to-measure : (k : Column) (x : IndexColumn) {s : Checked} → checked_numbers s ≡ through_range k x → s ≡ Ok tt → Ready k x
-ready-to-measure k x se sf = through-ready k x (lets-pass se sf)
 
 -- a sum of few small numbers
 pub small-sum : (i : ℕ) (f : ℕ → ℕ) (m : ℕ) → ((k : ℕ) → k < i → f k ≤ m) → i ≤ 32 → sum i f ≤ 32 * m
@@ -71,49 +65,38 @@ module _ (b : Batch) (x : IndexColumn) where
         let rows : (b.column 0).table.rows ≡ k.table.rows = sym (rows-equal b p i h) ∙ ap (λ (k : Column). k.table.rows) (sym ke) in
         subst (λ (n : ℕ). InRange n x) rows (column-ready b x 0 (c.passed 0 n)).indices
 
-    -- it refuses: its refusal is that of the columns
-    refused-by : (r : Refusal) → refusal_numbers r ≡ first_of (through_lines k x) → AllToldOf b x (Err r)
-    refused-by r e =
-        let d : refusal_numbers r ≡ first_of (through i) = e ∙ ap (λ (k : Column). first_of (through_lines k x)) ke in
-        (d ∙ sym (lines-refused through (λ k. through-refusing (b.column k) x) b.count i h c.passed (rw (sym d) (refusing r))), tt)
+    module _ (m : Result Lengths Refusal) (kt : ToldOf k x m) where
+      told : ToldOf (b.column i) x m
+      told = subst (λ (k : Column). ToldOf k x m) ke kt
 
-    module _ {s : Checked} (se : checked_numbers s ≡ through_range k x) where
-      pub range-refused : (r : Refusal) → s ≡ Err r → AllToldOf b x (Err r)
-      range-refused r f =
-          let e : refusal_numbers r ≡ through_range k x = sym (ap checked_numbers f) ∙ se in
-          refused-by r (e ∙ through-stopped k x (rw (sym e) (refusing r)))
+      -- it refuses: its refusal is that of the columns
+      pub columns-refused : (r : Refusal) → m ≡ Err r → AllToldOf b x (Err r)
+      columns-refused r f =
+          (sym (ap checked_numbers f) ∙ told.0 ∙ sym (lines-refused through (λ k. through-refusing (b.column k) x) b.count i h c.passed (refuses told.0 f)), tt)
 
-      module _ (sf : s ≡ Ok tt) where
-        module _ (m : Result Lengths Refusal) (me : MeasuredOf k x m) where
-          pub total-refused : (r : Refusal) → m ≡ Err r → AllToldOf b x (Err r)
-          total-refused r f = refused-by r (sym (ap checked_numbers f) ∙ (through-measured k x (lets-pass se sf) m me).0)
+      module _ (n : Lengths) (f : m ≡ Ok n) where
+        needed : n ≡ need i
+        needed = IfOk-at_ok (λ (n : Lengths). n ≡ need i) f told.1
 
-          module _ (n : Lengths) (f : m ≡ Ok n) where
-            told : ToldOf (b.column i) x m
-            told = subst (λ (k : Column). ToldOf k x m) ke (through-measured k x (lets-pass se sf) m me)
+        all-passed : (k : ℕ) → k < suc i → passes (first_of (through k)) ≡ true
+        all-passed = below_suc (λ (k : ℕ). passes (first_of (through k)) ≡ true) i (lets-pass told.0 f) c.passed
 
-            needed : n ≡ need i
-            needed = IfOk-at_ok (λ (n : Lengths). n ≡ need i) f told.1
+        pub counted-more : Counted b x (i + 1) (lengths_together joined n)
+        counted-more =
+            rw add-one (record { inside = h; passed = all-passed; of-joined = ap (λ (m : Lengths). lengths_together m n) c.of-joined ∙ ap (lengths_together (joined_lengths i (taken_from b x))) needed })
 
-            all-passed : (k : ℕ) → k < suc i → passes (first_of (through k)) ≡ true
-            all-passed = below_suc (λ (k : ℕ). passes (first_of (through k)) ≡ true) i (lets-pass told.0 f) c.passed
-
-            pub counted-more : Counted b x (i + 1) (lengths_together joined n)
-            counted-more =
-                rw add-one (record { inside = h; passed = all-passed; of-joined = ap (λ (m : Lengths). lengths_together m n) c.of-joined ∙ ap (lengths_together (joined_lengths i (taken_from b x))) needed })
-
-            -- the sums are far below what a number of 64 bits holds
-            pub small-together : passes (first_of (batch_lines b)) ≡ true
-                → (joined.«data» + n.«data» < 2 ^ 64) × (joined.offsets + n.offsets < 2 ^ 64) × (joined.validity + n.validity < 2 ^ 64)
-            small-together p =
-                let bound : ℕ = max_rows * max_bytes in
-                let each : (k : ℕ) → k < suc i → ((need k).validity ≤ bound) × ((need k).offsets ≤ bound) × ((need k).«data» ≤ bound) =
-                λ k l. needed-small (b.column k) x (column-ready b x k (all-passed k l)) in
-                let few : suc i ≤ 32 = omega (arith, few-columns b p) in (
-                  omega (arith, ap (λ (n : Lengths). n.«data») c.of-joined, ap (λ (n : Lengths). n.«data») needed, small-sum (suc i) (λ k. (need k).«data») bound (λ k l. (each k l).2) few),
-                  omega (arith, ap (λ (n : Lengths). n.offsets) c.of-joined, ap (λ (n : Lengths). n.offsets) needed, small-sum (suc i) (λ k. (need k).offsets) bound (λ k l. (each k l).1) few),
-                  omega (arith, ap (λ (n : Lengths). n.validity) c.of-joined, ap (λ (n : Lengths). n.validity) needed, small-sum (suc i) (λ k. (need k).validity) bound (λ k l. (each k l).0) few),
-                )
+        -- the sums are far below what a number of 64 bits holds
+        pub small-together : passes (first_of (batch_lines b)) ≡ true
+            → (joined.«data» + n.«data» < 2 ^ 64) × (joined.offsets + n.offsets < 2 ^ 64) × (joined.validity + n.validity < 2 ^ 64)
+        small-together p =
+            let bound : ℕ = max_rows * max_bytes in
+            let each : (k : ℕ) → k < suc i → ((need k).validity ≤ bound) × ((need k).offsets ≤ bound) × ((need k).«data» ≤ bound) =
+            λ k l. needed-small (b.column k) x (column-ready b x k (all-passed k l)) in
+            let few : suc i ≤ 32 = omega (arith, few-columns b p) in (
+              omega (arith, ap (λ (n : Lengths). n.«data») c.of-joined, ap (λ (n : Lengths). n.«data») needed, small-sum (suc i) (λ k. (need k).«data») bound (λ k l. (each k l).2) few),
+              omega (arith, ap (λ (n : Lengths). n.offsets) c.of-joined, ap (λ (n : Lengths). n.offsets) needed, small-sum (suc i) (λ k. (need k).offsets) bound (λ k l. (each k l).1) few),
+              omega (arith, ap (λ (n : Lengths). n.validity) c.of-joined, ap (λ (n : Lengths). n.validity) needed, small-sum (suc i) (λ k. (need k).validity) bound (λ k l. (each k l).0) few),
+            )
 
   -- ---- the end: every column passes
 

@@ -7,32 +7,34 @@ ghost use Rattle.tables.specs.Answers.{passes, first_of};
 ghost use Rattle.tables.specs.Stages.{checked_numbers};
 ghost use Rattle.gathers.specs.Ready.{InRange};
 ghost use Rattle.gathers.specs.Stored.{output_of};
-ghost use Rattle.described.specs.Told.{through_range};
+ghost use Rattle.described.specs.Told.{ToldOf};
 ghost use Rattle.batches.specs.Batch.{batch_lines, arrays_refusals};
 ghost use Rattle.arrays.specs.Told.{batch_of, AllToldOf};
 
 use crate::batch::{Batch, check_batch};
-use described::in_body::{check_described, measure_described};
+use described::in_body::{check_alone, check_described, measure_described};
 use descriptions::record::describe;
 use stages::space::check_space;
 use tables::column::{IndexColumn, Output};
 use tables::refusal::Refusal;
 use tables::table::{Description, Lengths};
 
-// Refusals 1 to 5 of a column. The indices are tested with the first one: those after it have as many rows.
+// Refusals 1 to 6 of a column, and where none is met what its rows need. The indices are tested with the first column alone: those after it have as many
+// rows. (`first`, and not the index column that is tested: of a reference that is one or another it was not proved how long it lives.)
 fn check_next(
     first: bool,
     d: Description,
     body: &[u8],
     indices: &IndexColumn<'_>,
-) -> Result<(), Refusal>
+) -> Result<Lengths, Refusal>
     requires { first ≡ false → InRange (column_in body.now d).table.rows (index_column_of indices.now) }
-    ensures { checked_numbers result ≡ through_range (column_in body.now d) (index_column_of indices.now) }
+    ensures { ToldOf (column_in body.now d) (index_column_of indices.now) result }
 {
     if first {
         return check_described(d, body, indices);
     }
-    check_described(d, body, &IndexColumn::none())
+    check_alone(d, body)?;
+    measure_described(d, body, indices)
 }
 
 // The columns one by one, each through overflow, and what they need together.
@@ -44,8 +46,7 @@ fn check_columns(batch: &Batch<'_>, indices: &IndexColumn<'_>) -> Result<Lengths
     let mut joined = Lengths::none();
     for i in 0..columns {
         let d = describe(batch.descriptions, i);
-        check_next(i == 0, d, batch.body, indices)?;
-        joined = joined.plus(measure_described(d, batch.body, indices)?);
+        joined = joined.plus(check_next(i == 0, d, batch.body, indices)?);
     }
     Ok(joined)
 }

@@ -23,13 +23,15 @@ use Rattle.gathers.specs.Taken.{take_rows}
 use Rattle.gathers.specs.Stored.{Output, validity_bytes, written_offsets, data_bytes, offset_length, data_length, null_count, store_offsets, store}
 use Rattle.gathers.specs.Stages.{range_refusal, measured}
 use Rattle.gathers.specs.Ready.{Ready, NoOverflow, HasRoom}
+use Rattle.tables.specs.Refusals.{index_refusal}
+use Rattle.tables.specs.Bounds.{Sized}
 use Rattle.variable.specs.Measured.{measured_numbers}
 use Rattle.stages.specs.Space.{lengths_for}
-use Rattle.described.specs.Told.{rows_refusal, MeasuredOf}
+use Rattle.described.specs.Told.{MeasuredOf, RestToldOf}
 use Rattle.described.specs.Taken.{taken_of, HasRoomFor, data_in, OffsetsIn}
 use Rattle.bits.proofs.Bytes.{length-overwrite}
 use Rattle.tables.proofs.Bounds.{offset-number-width}
-use Rattle.tables.proofs.Stages.{refusing}
+use Rattle.tables.proofs.Stages.{sized-well-formed, refusing}
 use Rattle.gathers.proofs.Stages.{measured-refused, measured-total, stored-by}
 use Rattle.gathers.proofs.Lengths.{blocks-length, bits-length}
 use Rattle.gathers.proofs.Regular.{length-written}
@@ -53,15 +55,6 @@ module _ (c : Column) (x : IndexColumn) where
   abbrev found : ℕ → Lengths
   found total = lengths_for (layout_of (kind_of c.table.kind) c.table.width c.table.size) c.table.offset_width x.indices.count total
 
-  -- ---- refusals 4 and 5
-
-  module _ {s : Checked} (e : checked_numbers s ≡ offsets_refusal c) where
-    pub offsets-stopped : {r : Refusal} → s ≡ Err r → checked_numbers s ≡ rows_refusal c x
-    offsets-stopped {r} f = rw (sym e, f, refusing r)
-
-    pub offsets-passed : s ≡ Ok tt → {a : Answer} → a ≡ range_refusal c.table.rows x → a ≡ rows_refusal c x
-    offsets-passed f d = rw (sym e, f) d
-
   -- ---- refusal 6
 
   module _ {m : Result ℕ Refusal} (e : measured_numbers m ≡ measured v) where
@@ -70,6 +63,23 @@ module _ (c : Column) (x : IndexColumn) where
 
     pub measure-passed : {total : ℕ} {n : Lengths} → m ≡ Ok total → n ≡ found total → MeasuredOf c x (Ok n)
     measure-passed f h = let t = measured-total v (sym (ap measured_numbers f) ∙ e) in (sym (overflow-accepts v t.0), h ∙ needed-told c x t.1)
+
+  -- ---- refusals 4 to 6
+
+  module _ {s : Checked} (se : checked_numbers s ≡ offsets_refusal c) where
+    pub offsets-stopped : {r : Refusal} → s ≡ Err r → RestToldOf c x (Err r)
+    offsets-stopped {r} f = (sym (ap checked_numbers f) ∙ se ∙ (let n = refuses se f in rw (n, n)), tt)
+
+    module _ (sf : s ≡ Ok tt) {t : Checked} (te : checked_numbers t ≡ range_refusal c.table.rows x) where
+      pub range-stopped : {r : Refusal} → t ≡ Err r → RestToldOf c x (Err r)
+      range-stopped {r} f = (sym (ap checked_numbers f) ∙ te ∙ (let p = lets-pass se sf in let n = refuses te f in rw (p, n)), tt)
+
+      module _ (tf : t ≡ Ok tt) where
+        pub rest-ready : Sized c → passes (index_refusal x) ≡ true → Ready c x
+        rest-ready p q = record { column = sized-well-formed c p (lets-pass se sf); indices = record { passed = q; range = lets-pass te tf } }
+
+        pub rest-told : (m : Result Lengths Refusal) → MeasuredOf c x m → RestToldOf c x m
+        rest-told m d = (d.0 ∙ (let p = lets-pass se sf in let q = lets-pass te tf in rw (p, q)), d.1)
 
   -- ---- the writing
 

@@ -1,13 +1,12 @@
 -- What the tests of one column tell.
 use Rattle.std.specs.Prelude.{◌≡◌, if◌then◌else◌, Result, IfOk}
-use Rattle.tables.specs.declared.answer.Answer.{Answer}
 use Rattle.tables.specs.declared.refusal.Refusal.{Refusal}
 use Rattle.tables.specs.declared.table.Lengths.{Lengths}
 use Rattle.tables.specs.declared.table.Description.{Description}
 use Rattle.tables.specs.Kinds.{kind_of, uses_of}
 use Rattle.tables.specs.Columns.{Column, IndexColumn}
 use Rattle.tables.specs.Answers.{first_of}
-use Rattle.tables.specs.Stages.{checked_numbers, ◌or_else◌, form_refusal, offsets_refusal}
+use Rattle.tables.specs.Stages.{checked_numbers, ◌or_else◌, offsets_refusal}
 use Rattle.gathers.specs.Taken.{taken}
 use Rattle.gathers.specs.Stored.{needed_lengths}
 use Rattle.gathers.specs.Gather.{through_lines}
@@ -21,14 +20,6 @@ stated_lengths d = record {
   validity = d.validity.len;
 }
 
--- 4 and 5
-abbrev pub rows_refusal : Column → IndexColumn → Answer
-rows_refusal c x = offsets_refusal c or_else range_refusal c.table.rows x
-
--- 1 to 5
-abbrev pub through_range : Column → IndexColumn → Answer
-through_range c x = form_refusal c x or_else range_refusal c.table.rows x
-
 -- where nothing is refused: what the rows need
 abbrev pub PassedOf : Column → IndexColumn → Result Lengths Refusal → Type 0
 PassedOf c x r = IfOk r (λ needed. needed ≡ needed_lengths (taken c x))
@@ -36,6 +27,10 @@ PassedOf c x r = IfOk r (λ needed. needed ≡ needed_lengths (taken c x))
 -- 6
 abbrev pub MeasuredOf : Column → IndexColumn → Result Lengths Refusal → Type 0
 MeasuredOf c x r = (checked_numbers r ≡ overflow_refusal (taken c x)) × PassedOf c x r
+
+-- 4 to 6
+abbrev pub RestToldOf : Column → IndexColumn → Result Lengths Refusal → Type 0
+RestToldOf c x r = (checked_numbers r ≡ offsets_refusal c or_else range_refusal c.table.rows x or_else overflow_refusal (taken c x)) × PassedOf c x r
 
 -- 1 to 6
 abbrev pub ToldOf : Column → IndexColumn → Result Lengths Refusal → Type 0

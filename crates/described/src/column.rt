@@ -3,13 +3,12 @@
 ghost use Rattle.std.specs.Prelude.{◌≡◌, true};
 ghost use Rattle.tables.specs.Columns.{column_of, index_column_of};
 ghost use Rattle.tables.specs.Answers.{passes};
-ghost use Rattle.tables.specs.Stages.{checked_numbers};
 ghost use Rattle.tables.specs.Refusals.{index_refusal};
 ghost use Rattle.tables.specs.Bounds.{Sized};
 ghost use Rattle.gathers.specs.Taken.{taken};
 ghost use Rattle.gathers.specs.Stored.{output_at, store};
 ghost use Rattle.gathers.specs.Ready.{Ready, NoOverflow};
-ghost use Rattle.described.specs.Told.{rows_refusal, MeasuredOf};
+ghost use Rattle.described.specs.Told.{MeasuredOf, RestToldOf};
 ghost use Rattle.described.specs.Taken.{taken_of, data_in, OffsetsIn, HasRoomFor};
 
 use bitmaps::bit::BooleanBuffer;
@@ -32,16 +31,6 @@ pub struct Taken {
     pub nulls: u64,
 }
 
-// Refusals 4 and 5, of a column that passed those of its sizes.
-pub fn check_column(column: &Column<'_>, indices: &IndexColumn<'_>) -> Result<(), Refusal>
-    requires sized { Sized (column_of column.now) }
-    requires index_passes { passes (index_refusal (index_column_of indices.now)) ≡ true }
-    ensures { checked_numbers result ≡ rows_refusal (column_of column.now) (index_column_of indices.now) }
-{
-    check_offsets(column)?;
-    check_bounds(column.table.rows, indices).checked
-}
-
 // Refusal 6 of a column that passed those before, and where it is not met how many bytes of each output the rows need.
 pub fn measure_column(column: &Column<'_>, indices: &IndexColumn<'_>) -> Result<Lengths, Refusal>
     requires { Ready (column_of column.now) (index_column_of indices.now) }
@@ -49,6 +38,17 @@ pub fn measure_column(column: &Column<'_>, indices: &IndexColumn<'_>) -> Result<
 {
     let total = measure(column, indices)?;
     Ok(needed_lengths(column.table, indices.indices.count, total))
+}
+
+// The tests that are left after refusals 1 to 3, through overflow, and where none refuses how many bytes of each output the rows need.
+pub fn check_column(column: &Column<'_>, indices: &IndexColumn<'_>) -> Result<Lengths, Refusal>
+    requires sized { Sized (column_of column.now) }
+    requires index_passes { passes (index_refusal (index_column_of indices.now)) ≡ true }
+    ensures { RestToldOf (column_of column.now) (index_column_of indices.now) result }
+{
+    check_offsets(column)?;
+    check_bounds(column.table.rows, indices).checked?;
+    measure_column(column, indices)
 }
 
 // The data bytes of so many rows that are written; of variable width the last offset tells them, and no length is added up again.

@@ -17,12 +17,12 @@ use Rattle.gathers.specs.Gather.{space_lines, refusals, Outcome, gather}
 use Rattle.gathers.specs.Ready.{Ready, NoOverflow}
 use Rattle.stages.specs.Space.{lengths_refusal}
 use Rattle.described.specs.declared.column.Taken.{Taken}
-use Rattle.described.specs.Told.{rows_refusal, through_range, MeasuredOf, ToldOf}
+use Rattle.described.specs.Told.{RestToldOf, ToldOf}
 use Rattle.described.specs.Taken.{taken_of, HasRoomFor}
 use Rattle.entries.specs.Entry.{Gathers}
 use Rattle.stages.proofs.Spaces.{lengths_refusal-lines}
 use Rattle.described.proofs.Columns.{refuses, lets-pass}
-use Rattle.described.proofs.Placed.{rows-tested, through-stopped, through-ready, through-measured}
+use Rattle.described.proofs.Placed.{all_told}
 use Rattle.tables.proofs.Stages.{refusing, stage-refused, form-passed}
 use Rattle.gathers.proofs.Stages.{Passed as AllPassed, all-passed, by-space, stops-form, gather-refused, gather-stored, enough, space_refusal-lines, gathered-by}
 use Rattle.gathers.proofs.Blanked.{gather-blank}
@@ -33,36 +33,25 @@ module _ (c : Column) (x : IndexColumn) where
 
   -- ---- the tests, stage by stage
 
-  module _ {s : Checked} (se : checked_numbers s ≡ sizes_refusal c x) where
+  module _ (s : Checked) (se : checked_numbers s ≡ sizes_refusal c x) where
     pub sizes-refused : (o : Output) {r : Refusal} → s ≡ Err r → checked_numbers s ≡ first_of (refusals c x o)
     sizes-refused o f = let g = stage-refused c x se f in g ∙ stops-form c x o (refuses g f)
 
-    module _ (sf : s ≡ Ok tt) (t : Checked) (te : checked_numbers t ≡ rows_refusal c x) where
-      tested : checked_numbers t ≡ through_range c x
-      tested = rows-tested c x se sf te
+    module _ (sf : s ≡ Ok tt) (m : Result Lengths Refusal) (me : RestToldOf c x m) where
+      through : ToldOf c x m
+      through = all_told c x se sf m me
 
-      pub rows-refused : (o : Output) {r : Refusal} → t ≡ Err r → checked_numbers t ≡ first_of (refusals c x o)
-      rows-refused o f = let n = refuses tested f in let g = tested ∙ through-stopped c x n in let m = refuses g f in g ∙ rw (by-space c x o, m)
+      pub through-refused : (o : Output) {r : Refusal} → m ≡ Err r → checked_numbers m ≡ first_of (refusals c x o)
+      through-refused o f = let n = refuses through.0 f in through.0 ∙ rw (by-space c x o, n)
 
-      module _ (tf : t ≡ Ok tt) where
-        pub ready-to-measure : Ready c x
-        ready-to-measure = through-ready c x (lets-pass tested tf)
-
-        module _ (m : Result Lengths Refusal) (me : MeasuredOf c x m) where
-          through : ToldOf c x m
-          through = through-measured c x (lets-pass tested tf) m me
-
-          pub total-refused : (o : Output) {r : Refusal} → m ≡ Err r → checked_numbers m ≡ first_of (refusals c x o)
-          total-refused o f = let n = refuses through.0 f in through.0 ∙ rw (by-space c x o, n)
-
-          pub all_tested : {needed : Lengths} → m ≡ Ok needed → (o : Output) {a : Answer} → a ≡ lengths_refusal needed (lent_lengths o) → a ≡ first_of (refusals c x o)
-          all_tested {needed} mf o d =
-              let n = lets-pass through.0 mf in
-              d
-              ∙ lengths_refusal-lines needed (lent_lengths o)
-              ∙ ap (λ (k : Lengths). first_of (space_lines k (lent_lengths o))) (IfOk-at_ok (λ (k : Lengths). k ≡ needed_lengths v) mf through.1)
-              ∙ sym (space_refusal-lines v o)
-              ∙ rw (by-space c x o, n)
+      pub all_tested : {needed : Lengths} → m ≡ Ok needed → (o : Output) {a : Answer} → a ≡ lengths_refusal needed (lent_lengths o) → a ≡ first_of (refusals c x o)
+      all_tested {needed} mf o d =
+          let n = lets-pass through.0 mf in
+          d
+          ∙ lengths_refusal-lines needed (lent_lengths o)
+          ∙ ap (λ (k : Lengths). first_of (space_lines k (lent_lengths o))) (IfOk-at_ok (λ (k : Lengths). k ≡ needed_lengths v) mf through.1)
+          ∙ sym (space_refusal-lines v o)
+          ∙ rw (by-space c x o, n)
 
   -- ---- the gather, by what the tests answer
 

@@ -7,7 +7,7 @@ ghost use Rattle.tables.specs.Stages.{checked_numbers};
 ghost use Rattle.gathers.specs.Stored.{output_of};
 ghost use Rattle.gathers.specs.Gather.{refusals};
 
-use described::column::{check_column, measure_column};
+use described::column::check_column;
 use sizes::check::check_lent;
 use stages::space::check_space;
 use tables::column::{Column, IndexColumn, Output};
@@ -22,7 +22,6 @@ pub fn check(
     ensures { checked_numbers result ≡ first_of (refusals (column_of column.now) (index_column_of indices.now) (output_of out.now)) }
 {
     check_lent(column, indices)?;
-    check_column(column, indices)?;
-    let needed = measure_column(column, indices)?;
+    let needed = check_column(column, indices)?;
     check_space(needed, out.lengths())
 }

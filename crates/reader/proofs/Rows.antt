@@ -98,7 +98,6 @@ module _ (c : Column) (r : ℕ) where
       unfolding has_row
       by-bit = rw (w, valid-bit, kind-three c.table.kind k, lt-ltb r c.table.rows h) refl
 
-
   -- ---- where there is such a row
 
   module _ (there : has_row c r ≡ true) where

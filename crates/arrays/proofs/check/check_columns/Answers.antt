@@ -4,7 +4,7 @@ use Rattle.std.proofs.lemmas.Result.{err_from_is_err_and}
 use Rattle.tables.specs.Columns.{index_column_of}
 use Rattle.tables.specs.Bodies.{column_in}
 use Rattle.arrays.specs.Told.{batch_of}
-use Rattle.arrays.proofs.Counted.{range-known, range-refused, ready-to-measure, total-refused, small-together, counted-more, columns-told}
+use Rattle.arrays.proofs.Counted.{range-known, columns-refused, small-together, counted-more, columns-told}
 use Rattle.arrays.proofs.check.check_columns.Goals as goal
 
 pub check_next-requires : goal.check_next-requires
@@ -14,26 +14,18 @@ check_next-requires c =
 pub returns-in_err-check_next : goal.returns-in_err-check_next
 returns-in_err-check_next c =
     let p = err_from_is_err_and c.from_residual.result c.from_residual.ensures.1 in
-    rw (p.1, p.2) (range-refused (batch_of c.args.batch.now) _ c.loop-i.invariant c.loop-i-test.true (ap (column_in _) c.describe-d.ensures) c.check_next.ensures _ c.in_err-check_next.was)
-
-pub measure_described-requires : goal.measure_described-requires
-measure_described-requires c = ready-to-measure _ _ c.check_next.ensures c.in_ok-check_next.was
-
-pub returns-in_err-measure_described : goal.returns-in_err-measure_described
-returns-in_err-measure_described c =
-    let p = err_from_is_err_and c.from_residual-in_err-measure_described.result c.from_residual-in_err-measure_described.ensures.1 in
-    rw (p.1, p.2) (total-refused (batch_of c.args.batch.now) _ c.loop-i.invariant c.loop-i-test.true (ap (column_in _) c.describe-d.ensures) c.check_next.ensures
-    c.in_ok-check_next.was _ c.measure_described.ensures _ c.in_err-measure_described.was)
+    rw (p.1, p.2) (columns-refused (batch_of c.args.batch.now) _ c.loop-i.invariant c.loop-i-test.true (ap (column_in _) c.describe-d.ensures) _ c.check_next.ensures
+    _ c.in_err-check_next.was)
 
 pub plus-joined-requires : goal.plus-joined-requires
 plus-joined-requires c =
-    small-together (batch_of c.args.batch.now) _ c.loop-i.invariant c.loop-i-test.true (ap (column_in _) c.describe-d.ensures) c.check_next.ensures
-    c.in_ok-check_next.was _ c.measure_described.ensures _ c.in_ok-measure_described.was c.requires
+    small-together (batch_of c.args.batch.now) _ c.loop-i.invariant c.loop-i-test.true (ap (column_in _) c.describe-d.ensures) _ c.check_next.ensures
+    _ c.in_ok-check_next.was c.requires
 
 pub loop-i-preserved : goal.loop-i-preserved
 loop-i-preserved c =
-    rw c.plus-joined.ensures (counted-more (batch_of c.args.batch.now) _ c.loop-i.invariant c.loop-i-test.true (ap (column_in _) c.describe-d.ensures) c.check_next.ensures
-    c.in_ok-check_next.was _ c.measure_described.ensures _ c.in_ok-measure_described.was)
+    rw c.plus-joined.ensures (counted-more (batch_of c.args.batch.now) _ c.loop-i.invariant c.loop-i-test.true (ap (column_in _) c.describe-d.ensures) _
+    c.check_next.ensures _ c.in_ok-check_next.was)
 
 pub returns : goal.returns
 returns c =

@@ -1,12 +1,22 @@
--- Refusal 4, or past it 5.
-use Rattle.std.proofs.Common.{◌∙◌}
-use Rattle.tables.proofs.Stages.{passed-up}
-use Rattle.described.proofs.Columns.{offsets-stopped, offsets-passed}
+-- Refusal 4, or past it 5, or past both what the total decides.
+use Rattle.std.proofs.lemmas.Result.{err_from_is_err_and}
+use Rattle.described.proofs.Columns.{offsets-stopped, range-stopped, rest-ready, rest-told}
 use Rattle.described.proofs.column.check_column.Goals as goal
 
 pub returns-in_err-check_offsets : goal.returns-in_err-check_offsets
 returns-in_err-check_offsets c =
-    passed-up _ c.in_err-check_offsets.was c.from_residual.ensures.1 ∙ offsets-stopped _ _ c.check_offsets.ensures c.in_err-check_offsets.was
+    let p = err_from_is_err_and c.from_residual.result c.from_residual.ensures.1 in
+    rw (p.1, p.2) (offsets-stopped _ _ c.check_offsets.ensures c.in_err-check_offsets.was)
+
+pub returns-in_err-check_bounds : goal.returns-in_err-check_bounds
+returns-in_err-check_bounds c =
+    let p = err_from_is_err_and c.from_residual-in_err-check_bounds.result c.from_residual-in_err-check_bounds.ensures.1 in
+    rw (p.1, p.2) (range-stopped _ _ c.check_offsets.ensures c.in_ok-check_offsets.was c.check_bounds.ensures.checked c.in_err-check_bounds.was)
+
+pub measure_column-requires : goal.measure_column-requires
+measure_column-requires c =
+    rest-ready _ _ c.check_offsets.ensures c.in_ok-check_offsets.was c.check_bounds.ensures.checked c.in_ok-check_bounds.was c.requires.sized c.requires.index_passes
 
 pub returns : goal.returns
-returns c = offsets-passed _ _ c.check_offsets.ensures c.in_ok-check_offsets.was c.check_bounds.ensures.checked
+returns c =
+    rest-told _ _ c.check_offsets.ensures c.in_ok-check_offsets.was c.check_bounds.ensures.checked c.in_ok-check_bounds.was _ c.measure_column.ensures

@@ -1,15 +1,17 @@
 -- Refusals 1 to 3 on stated lengths, and the rest on the parts of the body.
-use Rattle.std.proofs.Common.{sym, ap, subst, ◌∙◌}
+use Rattle.std.proofs.Common.{sym, subst}
+use Rattle.std.proofs.lemmas.Result.{err_from_is_err_and}
 use Rattle.tables.specs.Columns.{Column, index_column_of}
 use Rattle.tables.specs.Bounds.{Sized}
-use Rattle.tables.proofs.Stages.{passed-up, sized-whole}
-use Rattle.described.specs.Told.{rows_refusal}
-use Rattle.described.proofs.Placed.{sizes-stopped, sizes-let-pass, rows-tested}
+use Rattle.tables.proofs.Stages.{sized-whole}
+use Rattle.described.specs.Told.{RestToldOf}
+use Rattle.described.proofs.Placed.{sizes-stopped, sizes-let-pass, all_told}
 use Rattle.described.proofs.in_body.check_described.Goals as goal
 
 pub returns-in_err-check_stated : goal.returns-in_err-check_stated
 returns-in_err-check_stated c =
-    passed-up _ c.in_err-check_stated.was c.from_residual.ensures.1 ∙ sizes-stopped _ _ c.check_stated.ensures c.in_err-check_stated.was
+    let p = err_from_is_err_and c.from_residual.result c.from_residual.ensures.1 in
+    rw (p.1, p.2) (sizes-stopped _ _ c.check_stated.ensures c.in_err-check_stated.was)
 
 pub column_in-requires : goal.column_in-requires
 column_in-requires c = sized-whole _ (sizes-let-pass _ _ c.check_stated.ensures c.in_ok-check_stated.was).0
@@ -21,5 +23,5 @@ check_column-requires c =
 
 pub returns : goal.returns
 returns c =
-    rows-tested _ _ c.check_stated.ensures c.in_ok-check_stated.was
-    (c.check_column.ensures ∙ ap (λ (b : Column). rows_refusal b (index_column_of c.args.indices.now)) c.column_in.ensures)
+    all_told _ _ c.check_stated.ensures c.in_ok-check_stated.was _
+    (subst (λ (b : Column). RestToldOf b (index_column_of c.args.indices.now) c.check_column.result) c.column_in.ensures c.check_column.ensures)

@@ -2,30 +2,21 @@
 use Rattle.std.proofs.Common.{◌∙◌}
 use Rattle.tables.proofs.Stages.{passed-up}
 use Rattle.described.proofs.Placed.{sizes-let-pass}
-use Rattle.entries.proofs.Gathering.{sizes-refused, rows-refused, ready-to-measure, total-refused, all_tested}
+use Rattle.entries.proofs.Gathering.{sizes-refused, through-refused, all_tested}
 use Rattle.entries.proofs.check.check.Goals as goal
 
 pub returns-in_err-check_lent : goal.returns-in_err-check_lent
 returns-in_err-check_lent c =
-    passed-up _ c.in_err-check_lent.was c.from_residual.ensures.1 ∙ sizes-refused _ _ c.check_lent.ensures _ c.in_err-check_lent.was
+    passed-up _ c.in_err-check_lent.was c.from_residual.ensures.1 ∙ sizes-refused _ _ _ c.check_lent.ensures _ c.in_err-check_lent.was
 
 pub check_column-requires : goal.check_column-requires
 check_column-requires c = let p = sizes-let-pass _ _ c.check_lent.ensures c.in_ok-check_lent.was in record { sized = p.0; index_passes = p.1 }
 
-pub returns-in_err-check_column : goal.returns-in_err-check_column
-returns-in_err-check_column c =
-    passed-up _ c.in_err-check_column.was c.from_residual-in_err-check_column.ensures.1
-    ∙ rows-refused _ _ c.check_lent.ensures c.in_ok-check_lent.was _ c.check_column.ensures _ c.in_err-check_column.was
-
-pub measure_column-requires : goal.measure_column-requires
-measure_column-requires c = ready-to-measure _ _ c.check_lent.ensures c.in_ok-check_lent.was _ c.check_column.ensures c.in_ok-check_column.was
-
 pub returns-in_err-needed : goal.returns-in_err-needed
 returns-in_err-needed c =
     passed-up _ c.in_err-needed.was c.from_residual-in_err-needed.ensures.1
-    ∙ total-refused _ _ c.check_lent.ensures c.in_ok-check_lent.was _ c.check_column.ensures c.in_ok-check_column.was _ c.measure_column.ensures _ c.in_err-needed.was
+    ∙ through-refused _ _ _ c.check_lent.ensures c.in_ok-check_lent.was _ c.check_column.ensures _ c.in_err-needed.was
 
 pub returns : goal.returns
 returns c =
-    all_tested _ _ c.check_lent.ensures c.in_ok-check_lent.was _ c.check_column.ensures c.in_ok-check_column.was _ c.measure_column.ensures c.in_ok-needed.was _
-    (rw c.lengths.ensures at c.check_space.ensures)
+    all_tested _ _ _ c.check_lent.ensures c.in_ok-check_lent.was _ c.check_column.ensures c.in_ok-needed.was _ (rw c.lengths.ensures at c.check_space.ensures)
