@@ -14,7 +14,7 @@ use Rattle.std.proofs.lemmas.Result.{IfOk-at_ok}
 use Rattle.tables.specs.Stages.{checked_numbers}
 use Rattle.tables.specs.declared.refusal.Refusal.{Refusal}
 use Rattle.tables.specs.declared.table.Lengths.{Lengths}
-use Rattle.tables.specs.Columns.{Column, IndexColumn, lengths_none, lengths_together}
+use Rattle.tables.specs.Columns.{Column, IndexColumn, lengths_together}
 use Rattle.tables.specs.Answers.{passes, Line, lines_of, first_of}
 use Rattle.tables.specs.Refusals.{max_rows, max_bytes}
 use Rattle.gathers.specs.Stored.{needed_lengths, joined_lengths}
@@ -52,7 +52,7 @@ module _ (b : Batch) (x : IndexColumn) where
   abbrev through : ℕ → List Line
   through k = through_lines (b.column k) x
 
-  pub counted_start : Counted b x 0 lengths_none
+  pub counted_start : Counted b x 0 (record { «data» = 0; offsets = 0; validity = 0 })
   counted_start = record { inside = omega arith; passed = λ k h. absurd (not-suc-le-zero h); of-joined = refl }
 
   -- ---- one column more: k

@@ -43,10 +43,10 @@ fn check_columns(batch: &Batch<'_>, indices: &IndexColumn<'_>) -> Result<Lengths
     ensures { AllToldOf (batch_of batch.now) (index_column_of indices.now) result }
 {
     let columns = batch.columns as usize;
-    let mut joined = Lengths::none();
+    let mut joined = Lengths::default();
     for i in 0..columns {
         let d = describe(batch.descriptions, i);
-        joined = joined.plus(check_next(i == 0, d, batch.body, indices)?);
+        joined = joined + check_next(i == 0, d, batch.body, indices)?;
     }
     Ok(joined)
 }

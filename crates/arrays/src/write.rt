@@ -26,7 +26,7 @@ pub fn write(
         ≡ store_joined batch.now.columns (taken_from (batch_of batch.now) (index_column_of indices.now)) (output_at out_validity.old out_offsets.old out_data.old) }
 {
     let columns = batch.columns as usize;
-    let mut written = Lengths::none();
+    let mut written = Lengths::default();
     let mut nulls: u64 = 0;
     for i in 0..columns {
         let d = describe(batch.descriptions, i);
@@ -38,7 +38,7 @@ pub fn write(
             &mut out_offsets[written.offsets as usize..],
             &mut out_data[written.data as usize..],
         );
-        written = written.plus(taken.needed);
+        written = written + taken.needed;
         nulls += taken.nulls;
     }
     Gathered {

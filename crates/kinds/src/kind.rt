@@ -5,50 +5,42 @@ ghost use Rattle.tables.specs.Bounds.{RowFits};
 
 use tables::table::{Kind, Layout, Table, Uses};
 
-// A kind that uses no field.
-const KNOWN: Uses = Uses {
-    known: true,
-    width: false,
-    size: false,
-    offset_width: false,
-    data_bit: false,
-};
-
 // The paper's table of fields used.
 pub fn uses_of(kind: Kind) -> Uses
     ensures { result ≡ uses_of kind }
 {
+    let known = Uses {
+        known: true,
+        ..Uses::default()
+    };
     match kind {
         Kind::Primitive => Uses {
             width: true,
-            ..KNOWN
+            ..known
         },
         Kind::Boolean => Uses {
             data_bit: true,
-            ..KNOWN
+            ..known
         },
         Kind::VariableBytes => Uses {
             offset_width: true,
-            ..KNOWN
+            ..known
         },
         Kind::List => Uses {
             width: true,
             offset_width: true,
-            ..KNOWN
+            ..known
         },
         Kind::FixedSizeList => Uses {
             width: true,
             size: true,
-            ..KNOWN
+            ..known
         },
         Kind::FixedSizeBinary => Uses {
             size: true,
-            ..KNOWN
+            ..known
         },
-        Kind::Unknown => Uses {
-            known: false,
-            ..KNOWN
-        },
+        Kind::Unknown => Uses::default(),
     }
 }
 

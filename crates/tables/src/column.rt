@@ -1,4 +1,5 @@
-// A column, an index column and output buffers as they are lent: a description and its buffers, handed on as one value.
+// A column, an index column and output buffers as they are lent: a description and its buffers, handed on as one value. Functions take a column and an
+// index column apart, as Rust's `take(values, indices)` does: a value of both would name nothing that either of them does not, and tests and blanked tables are of one.
 ghost use Rattle.std.specs.Prelude.{◌≡◌};
 ghost use Rattle.tables.specs.Columns.{lengths_at};
 
@@ -15,7 +16,7 @@ fn lengths(data: &[u8], offsets: &[u8], validity: &[u8]) -> Lengths
     }
 }
 
-#[derive(Clone, Copy)]
+#[derive(Clone, Copy, Debug, PartialEq, Eq)]
 pub struct Column<'a> {
     pub table: Table,
     pub data: &'a [u8],
@@ -33,7 +34,7 @@ impl Column<'_> {
     }
 }
 
-#[derive(Clone, Copy)]
+#[derive(Clone, Copy, Debug, PartialEq, Eq)]
 pub struct IndexColumn<'a> {
     pub indices: Indices,
     pub data: &'a [u8],
@@ -68,7 +69,7 @@ impl<'a> IndexColumn<'a> {
     }
 }
 
-// The three output buffers. A column's part of them is lent on as another value of this type.
+// The three output buffers. Below the entries they are lent on one by one (described/src/column.rt says why).
 #[derive(Drop)]
 pub struct Output<'a> {
     pub validity: &'a mut [u8],

@@ -17,17 +17,6 @@ use tables::table::{Indices, Table};
 // What outputs are filled with.
 const FILL: u8 = 0xEE;
 
-// A table that says nothing; a field that a trial does not name is 0.
-const TABLE: Table = Table {
-    kind: 0,
-    width: 0,
-    size: 0,
-    offset_width: 0,
-    rows: 0,
-    data_bit: 0,
-    validity_bit: 0,
-};
-
 // The paper's table A, `ab`, null, empty, `xyz`.
 fn column_a() -> Column<'static> {
     Column {
@@ -35,7 +24,7 @@ fn column_a() -> Column<'static> {
             kind: 3,
             offset_width: 4,
             rows: 4,
-            ..TABLE
+            ..Table::default()
         },
         data: b"abxyz",
         offsets: b"\0\0\0\0\x02\0\0\0\x02\0\0\0\x02\0\0\0\x05\0\0\0",
@@ -98,7 +87,7 @@ fn long_row(rt: &impl Print, what: &str, kind: u64, count: u64) -> io::Result<()
             width: 1,
             offset_width: 4,
             rows: 1,
-            ..TABLE
+            ..Table::default()
         },
         data: &[7; 65536],
         offsets: b"\0\0\0\0\0\0\x01\0",
@@ -126,7 +115,7 @@ fn last_row(rt: &impl Print, what: &str, rows: u64) -> io::Result<()> {
         table: Table {
             kind: 2,
             rows,
-            ..TABLE
+            ..Table::default()
         },
         data: &bits,
         offsets: b"",
@@ -195,7 +184,7 @@ fn row(rt: &impl Print, number: u64) -> io::Result<()> {
 // The range scan over so many rows, of an index column that is tested first.
 fn scanned(rows: u64, indices: &IndexColumn<'_>) -> Scanned {
     let none = Column {
-        table: Table { kind: 2, ..TABLE },
+        table: Table { kind: 2, ..Table::default() },
         data: b"",
         offsets: b"",
         validity: b"",

@@ -17,14 +17,14 @@ returns-in_err-check_next c =
     rw (p.1, p.2) (columns-refused (batch_of c.args.batch.now) _ c.loop-i.invariant c.loop-i-test.true (ap (column_in _) c.describe-d.ensures) _ c.check_next.ensures
     _ c.in_err-check_next.was)
 
-pub plus-joined-requires : goal.plus-joined-requires
-plus-joined-requires c =
+pub add-joined-requires : goal.add-joined-requires
+add-joined-requires c =
     small-together (batch_of c.args.batch.now) _ c.loop-i.invariant c.loop-i-test.true (ap (column_in _) c.describe-d.ensures) _ c.check_next.ensures
     _ c.in_ok-check_next.was c.requires
 
 pub loop-i-preserved : goal.loop-i-preserved
 loop-i-preserved c =
-    rw c.plus-joined.ensures (counted-more (batch_of c.args.batch.now) _ c.loop-i.invariant c.loop-i-test.true (ap (column_in _) c.describe-d.ensures) _
+    rw c.add-joined.ensures (counted-more (batch_of c.args.batch.now) _ c.loop-i.invariant c.loop-i-test.true (ap (column_in _) c.describe-d.ensures) _
     c.check_next.ensures _ c.in_ok-check_next.was)
 
 pub returns : goal.returns

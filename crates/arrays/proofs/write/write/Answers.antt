@@ -32,8 +32,8 @@ take_described-taken-requires c =
     let e = ap (column_in c.args.batch.now.body.now) c.describe-d.ensures in
     record { ready = next-ready _ x _ p l h e; no_overflow = next_small _ x _ p l h e; has_room_for = next-room _ x _ p l h e }
 
-pub plus-written-requires : goal.plus-written-requires
-plus-written-requires c =
+pub add-written-requires : goal.add-written-requires
+add-written-requires c =
     (sums-small _ _ _ c.requires c.loop-i.invariant c.loop-i-test.true (ap (column_in _) c.describe-d.ensures) c.take_described-taken.result c.take_described-taken.ensures.told).0
 
 pub overflow_add-nulls : goal.overflow_add-nulls
@@ -47,7 +47,7 @@ overflow_add-nulls c =
 pub loop-i-preserved : goal.loop-i-preserved
 loop-i-preserved c =
     let t = c.take_described-taken.ensures in
-    rw c.plus-written.ensures (laid_more _ _ _ c.requires c.loop-i.invariant c.loop-i-test.true (ap (column_in _) c.describe-d.ensures) c.take_described-taken.result t.told t.stored)
+    rw c.add-written.ensures (laid_more _ _ _ c.requires c.loop-i.invariant c.loop-i-test.true (ap (column_in _) c.describe-d.ensures) c.take_described-taken.result t.told t.stored)
 
 pub returns-clause-stored : goal.returns-clause-stored
 returns-clause-stored c =
