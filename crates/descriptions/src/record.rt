@@ -9,44 +9,49 @@ use tables::table::{Description, Extent, Table};
 // 13 words of eight bytes.
 pub const RECORD_BYTES: usize = 104;
 
-// Word j of the record that stands first.
-fn word(words: &[u8], j: usize) -> u64
-    requires record_there { record_bytes ≤ length words.now }
-    requires word_of_record { j < record_words }
-    ensures { result ≡ number_at 8 words.now j }
-{
-    read_u64(words, j * 8)
+// The words of a record, and what may lie after them.
+#[derive(Clone, Copy)]
+struct Record<'a> {
+    words: &'a [u8],
+    ghost whole: { record_bytes ≤ length words.now },
 }
 
-// The extent whose start is word j.
-fn extent_at(words: &[u8], j: usize) -> Extent
-    requires record_there { record_bytes ≤ length words.now }
-    requires word_of_record { j + 1 < record_words }
-    ensures { result ≡ extent (number_at 8 words.now j) (number_at 8 words.now (j + 1)) }
-{
-    Extent {
-        start: word(words, j),
-        len: word(words, j + 1),
+impl Record<'_> {
+    fn word(&self, j: usize) -> u64
+        requires { j < record_words }
+        ensures { result ≡ number_at 8 self.now.words.now j }
+    {
+        read_u64(self.words, j * 8)
     }
-}
 
-fn description(words: &[u8]) -> Description
-    requires { record_bytes ≤ length words.now }
-    ensures { result ≡ described (number_at 8 words.now) }
-{
-    Description {
-        table: Table {
-            kind: word(words, 0),
-            width: word(words, 1),
-            size: word(words, 2),
-            offset_width: word(words, 3),
-            rows: word(words, 4),
-            data_bit: word(words, 5),
-            validity_bit: word(words, 6),
-        },
-        data: extent_at(words, 7),
-        offsets: extent_at(words, 9),
-        validity: extent_at(words, 11),
+    // The extent whose start is word j.
+    fn extent_at(&self, j: usize) -> Extent
+        requires { j + 1 < record_words }
+        ensures { result ≡ extent (number_at 8 self.now.words.now j) (number_at 8 self.now.words.now (j + 1)) }
+    {
+        Extent {
+            start: self.word(j),
+            len: self.word(j + 1),
+        }
+    }
+
+    fn description(&self) -> Description
+        ensures { result ≡ described (number_at 8 self.now.words.now) }
+    {
+        Description {
+            table: Table {
+                kind: self.word(0),
+                width: self.word(1),
+                size: self.word(2),
+                offset_width: self.word(3),
+                rows: self.word(4),
+                data_bit: self.word(5),
+                validity_bit: self.word(6),
+            },
+            data: self.extent_at(7),
+            offsets: self.extent_at(9),
+            validity: self.extent_at(11),
+        }
     }
 }
 
@@ -54,7 +59,10 @@ pub fn describe(descriptions: &[u8], i: usize) -> Description
     requires { (i + 1) * record_bytes ≤ length descriptions.now }
     ensures { result ≡ described_at descriptions.now i }
 {
-    description(&descriptions[i * RECORD_BYTES..])
+    let record = Record {
+        words: &descriptions[i * RECORD_BYTES..],
+    };
+    record.description()
 }
 
 // The rows alone, for a caller that needs nothing else of the record.
@@ -62,5 +70,8 @@ pub fn rows_at(descriptions: &[u8], i: usize) -> u64
     requires { (i + 1) * record_bytes ≤ length descriptions.now }
     ensures { result ≡ (described_at descriptions.now i).table.rows }
 {
-    word(&descriptions[i * RECORD_BYTES..], 4)
+    let record = Record {
+        words: &descriptions[i * RECORD_BYTES..],
+    };
+    record.word(4)
 }
