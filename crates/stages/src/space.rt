@@ -1,6 +1,7 @@
 // Refusal 7: the bytes that each output needs, against the bytes that are lent.
-ghost use Rattle.std.specs.Prelude.{◌≡◌, ◌≤◌};
+ghost use Rattle.std.specs.Prelude.{◌≡◌, if◌then◌else◌, ◌≤◌, nat_lt};
 ghost use Rattle.tables.specs.Kinds.{kind_of, layout_of};
+ghost use Rattle.tables.specs.Answers.{accept, place_of, refuse};
 ghost use Rattle.tables.specs.Stages.{checked_numbers};
 ghost use Rattle.tables.specs.Refusals.{max_rows};
 ghost use Rattle.tables.specs.Bounds.{RowFits, Bounds};
@@ -35,28 +36,25 @@ pub fn needed_lengths(table: Table, count: u64, data: u64) -> Lengths
     }
 }
 
+// An output that is shorter than it needs to be.
+fn check_buffer(buffer: OutputBuffer, needed: u64, lent: u64) -> Result<(), Refusal>
+    ensures { checked_numbers result ≡ (if nat_lt lent needed then refuse 7 (place_of buffer) needed else accept) }
+{
+    if lent < needed {
+        return Err(Refusal::Space {
+            buffer,
+            total: needed,
+        });
+    }
+    Ok(())
+}
+
 // The first output that is shorter than it needs to be.
 #[tactic(auto, unfolding(crate::specs::Space::lengths_refusal))]
 pub fn check_space(needed: Lengths, lent: Lengths) -> Result<(), Refusal>
     ensures { checked_numbers result ≡ lengths_refusal needed lent }
 {
-    if lent.validity < needed.validity {
-        return Err(Refusal::Space {
-            buffer: OutputBuffer::Validity,
-            total: needed.validity,
-        });
-    }
-    if lent.offsets < needed.offsets {
-        return Err(Refusal::Space {
-            buffer: OutputBuffer::Offsets,
-            total: needed.offsets,
-        });
-    }
-    if lent.data < needed.data {
-        return Err(Refusal::Space {
-            buffer: OutputBuffer::Data,
-            total: needed.data,
-        });
-    }
-    Ok(())
+    check_buffer(OutputBuffer::Validity, needed.validity, lent.validity)?;
+    check_buffer(OutputBuffer::Offsets, needed.offsets, lent.offsets)?;
+    check_buffer(OutputBuffer::Data, needed.data, lent.data)
 }

@@ -19,7 +19,7 @@ use tables::column::{Column, IndexColumn};
 use tables::table::{Indices, Kind};
 use variable::take::{take_bytes, take_list};
 
-// The bytes that hold the validity of the output rows; none where no row is null, so that nothing is tested then.
+// The bytes that hold the validity of the output rows; none where no row is null. As in an index column, which it becomes, a validity that is absent is empty.
 fn shown<'a>(out_validity: &'a [u8], count: u64, nulls: u64) -> &'a [u8]
     requires { (count ≤ max_rows) × (bytes_for count ≤ length out_validity.now) }
     ensures { result.now ≡ (if nulls == 0 then [] else part 0 (bytes_for count) out_validity.now) }
