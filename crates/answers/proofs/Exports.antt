@@ -18,7 +18,7 @@ module _ {S : Type 0} (f : S → IndexColumn → Output → Outcome) (c : S) (x 
   cut_off h = rw (lt-ltb (length s) 32 h)
 
   -- a long one: what the gather leaves, with its numbers written
-  pub written : {a n : Answer} {t : List ℕ} {out : Output} → 32 ≤ length s → record { answer = a; output = out } ≡ f c x o → n ≡ a
-      → t ≡ overwrite (answer_bytes n) s → left n.number t out ≡ exported f s c x o
+  pub written : {a : Answer} {r : ℕ} {t : List ℕ} {out : Output} → 32 ≤ length s → record { answer = a; output = out } ≡ f c x o → r ≡ a.number
+      → t ≡ overwrite (answer_bytes a) s → left r t out ≡ exported f s c x o
   unfolding exported
   written h e d w = rw (le-ltb (length s) 32 h, w, sym e, d)

@@ -16,6 +16,6 @@ module _ (c : Column) (x : IndexColumn) (o : Output) (s : List ℕ) where
   pub short-answer : length s < 32 → Gathers (exported gather s) c x o (left 7 s o)
   short-answer h = record { right = cut_off gather c x o s h; private = λ w. cut_off gather _ x o s h }
 
-  pub long-answer : {a n : Answer} {t : List ℕ} {out : Output} → 32 ≤ length s → Gathers gather c x o (record { answer = a; output = out }) → n ≡ a
-      → t ≡ overwrite (answer_bytes n) s → Gathers (exported gather s) c x o (left n.number t out)
+  pub long-answer : {a : Answer} {r : ℕ} {t : List ℕ} {out : Output} → 32 ≤ length s → Gathers gather c x o (record { answer = a; output = out }) → r ≡ a.number
+      → t ≡ overwrite (answer_bytes a) s → Gathers (exported gather s) c x o (left r t out)
   long-answer h g d w = record { right = written gather c x o s h g.right d w; private = λ f. written gather _ x o s h (g.private f) d w }

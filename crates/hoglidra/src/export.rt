@@ -6,9 +6,8 @@ ghost use Rattle.gathers.specs.Gather.{gather};
 ghost use Rattle.entries.specs.Entry.{Gathers};
 ghost use Rattle.answers.specs.Exported.{left, exported};
 
-use answers::answer::{ANSWER_BYTES, SHORT_ANSWER, write_answer};
+use answers::answer::{ANSWER_BYTES, SHORT_ANSWER, write_answered};
 use entries::take::take;
-use tables::answer::Answer;
 use tables::column::{Column, IndexColumn, Output};
 use tables::table::{Indices, Table};
 
@@ -75,7 +74,5 @@ pub fn hoglidra_take(
             data: out_data,
         },
     );
-    let numbers = Answer::from(answered);
-    write_answer(numbers, answer);
-    numbers.number
+    write_answered(answered, answer)
 }

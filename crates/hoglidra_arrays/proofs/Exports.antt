@@ -16,6 +16,6 @@ module _ (b : Batch) (x : IndexColumn) (o : Output) (s : List ℕ) where
   pub short-answer : length s < 32 → GathersArrays (exported gather_arrays s) b x o (left 7 s o)
   short-answer h = record { right = cut_off gather_arrays b x o s h; private = cut_off gather_arrays _ x o s h }
 
-  pub long-answer : {a n : Answer} {t : List ℕ} {out : Output} → 32 ≤ length s → GathersArrays gather_arrays b x o (record { answer = a; output = out }) → n ≡ a
-      → t ≡ overwrite (answer_bytes n) s → GathersArrays (exported gather_arrays s) b x o (left n.number t out)
+  pub long-answer : {a : Answer} {r : ℕ} {t : List ℕ} {out : Output} → 32 ≤ length s → GathersArrays gather_arrays b x o (record { answer = a; output = out }) → r ≡ a.number
+      → t ≡ overwrite (answer_bytes a) s → GathersArrays (exported gather_arrays s) b x o (left r t out)
   long-answer h g d w = record { right = written gather_arrays b x o s h g.right d w; private = written gather_arrays _ x o s h g.private d w }

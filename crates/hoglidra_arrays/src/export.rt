@@ -5,10 +5,9 @@ ghost use Rattle.batches.specs.Batch.{batch_at, gather_arrays};
 ghost use Rattle.arrays.specs.Entry.{GathersArrays};
 ghost use Rattle.answers.specs.Exported.{left, exported};
 
-use answers::answer::{ANSWER_BYTES, SHORT_ANSWER, write_answer};
+use answers::answer::{ANSWER_BYTES, SHORT_ANSWER, write_answered};
 use arrays::batch::Batch;
 use arrays::take::take_arrays;
-use tables::answer::Answer;
 use tables::column::{IndexColumn, Output};
 use tables::table::Indices;
 
@@ -58,7 +57,5 @@ pub fn hoglidra_take_arrays(
             data: out_data,
         },
     );
-    let numbers = Answer::from(answered);
-    write_answer(numbers, answer);
-    numbers.number
+    write_answered(answered, answer)
 }

@@ -6,4 +6,4 @@ pub returns-then-answer-lt-ANSWER_BYTES : goal.returns-then-answer-lt-ANSWER_BYT
 returns-then-answer-lt-ANSWER_BYTES c = short-answer _ _ _ _ c.if-answer-lt-ANSWER_BYTES.true
 
 pub returns : goal.returns
-returns c = long-answer _ _ _ _ c.if-answer-lt-ANSWER_BYTES.false c.take-answered.ensures c.from-numbers.ensures c.write_answer.ensures
+returns c = long-answer _ _ _ _ c.if-answer-lt-ANSWER_BYTES.false c.take-answered.ensures c.write_answered.ensures.number c.write_answered.ensures.written
