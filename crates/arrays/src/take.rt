@@ -22,15 +22,11 @@ pub fn take_arrays(
 ) -> Result<Gathered, Refusal>
     ensures { GathersArrays gather_arrays (batch_of batch.now) (index_column_of indices.now) (output_of out.entry) (outcome (answered_numbers result) (output_left out.exit)) }
 {
-    match check(batch, indices, &out) {
-        Ok(()) => {
-            let Output {
-                validity,
-                offsets,
-                data,
-            } = out;
-            Ok(write(batch, indices, validity, offsets, data))
-        }
-        Err(refusal) => Err(refusal),
-    }
+    check(batch, indices, &out)?;
+    let Output {
+        validity,
+        offsets,
+        data,
+    } = out;
+    Ok(write(batch, indices, validity, offsets, data))
 }

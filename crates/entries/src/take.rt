@@ -19,19 +19,15 @@ pub fn take(
 ) -> Result<Gathered, Refusal>
     ensures { Gathers gather (column_of column.now) (index_column_of indices.now) (output_of out.entry) (outcome (answered_numbers result) (output_left out.exit)) }
 {
-    match check(column, indices, &out) {
-        Ok(()) => {
-            let Output {
-                validity,
-                offsets,
-                data,
-            } = out;
-            let taken = take_column(column, indices, validity, offsets, data);
-            Ok(Gathered {
-                total: taken.needed.data,
-                nulls: taken.nulls,
-            })
-        }
-        Err(refusal) => Err(refusal),
-    }
+    check(column, indices, &out)?;
+    let Output {
+        validity,
+        offsets,
+        data,
+    } = out;
+    let taken = take_column(column, indices, validity, offsets, data);
+    Ok(Gathered {
+        total: taken.needed.data,
+        nulls: taken.nulls,
+    })
 }
