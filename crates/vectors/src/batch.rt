@@ -3,14 +3,12 @@
 use crate::case::{Indices, Outputs};
 use crate::report::{Difference, Failure};
 use crate::text::Fields;
+use descriptions::record::RECORD_BYTES;
 use hoglidra_arrays::export::hoglidra_take_arrays;
 use std::alloc::Global;
 
-// The words of a record, of eight bytes each.
-const WORDS: u64 = 13;
-
 // The most bytes that the descriptions have: 33 records, one more than a call may have.
-const MOST: u64 = 3432;
+const MOST: usize = 33 * RECORD_BYTES;
 
 #[derive(Drop)]
 pub struct Batch {
@@ -53,13 +51,13 @@ impl Batch {
 // The records, of which the call does not get what is past their length.
 fn read_descriptions(alloc: Global, fields: &mut Fields<'_>) -> Result<Vec<u8>, Failure> {
     let len = fields.number()?;
-    if MOST < len {
+    if (MOST as u64) < len {
         return Err(Difference::Unreadable.into());
     }
     let mut descriptions = Vec::new(alloc);
-    for _ in 0..len.div_ceil(8 * WORDS) {
+    for _ in 0..len.div_ceil(RECORD_BYTES as u64) {
         fields.word("|")?;
-        for _ in 0..WORDS {
+        for _ in 0..RECORD_BYTES / 8 {
             descriptions.extend_from_slice(&fields.number()?.to_le_bytes())?;
         }
     }

@@ -6,6 +6,7 @@ use crate::batch::Batch;
 use crate::column::Column;
 use crate::report::{Difference, Failure, Number, Output};
 use crate::text::Fields;
+use answers::answer::ANSWER_BYTES;
 use std::alloc::{AllocError, Global};
 
 // What the outputs are filled with.
@@ -45,7 +46,7 @@ pub struct Case {
     pub wanted: Wanted,
 }
 
-// What is lent to a call. The answer's own bytes are the first 32.
+// What is lent to a call. The answer has eight bytes more than are written.
 #[derive(Drop)]
 pub struct Outputs {
     pub validity: Vec<u8>,
@@ -100,7 +101,7 @@ impl Wanted {
         for ((which, word), want) in NUMBERS.iter().zip(words).zip(&self.numbers) {
             compare_number(*which, u64::from_le_bytes(*word), *want)?;
         }
-        compare_bytes(Output::Tail, &out.answer[32..], b"")?;
+        compare_bytes(Output::Tail, &out.answer[ANSWER_BYTES..], b"")?;
         compare_bytes(Output::Validity, &out.validity, &self.validity)?;
         compare_bytes(Output::Offsets, &out.offsets, &self.offsets)?;
         compare_bytes(Output::Data, &out.data, &self.data)

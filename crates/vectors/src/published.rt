@@ -6,6 +6,7 @@ ghost use Rattle.std.specs.Prelude.{◌<◌};
 use crate::case::{Case, Columns, Wanted};
 use crate::report::{Difference, Failure, Tally};
 use std::alloc::Global;
+use tables::table::Kind;
 
 // No published answer is a longer line, so that one is none.
 const MOST_LINE: usize = 4096;
@@ -19,31 +20,30 @@ fn is_valid(validity: &[u8], row: usize) -> bool {
     (validity_byte(validity, row / 8) >> (row % 8)) % 2 == 1
 }
 
-// The bits of byte i of the data that are below no null. In kind 2 they are those of the validity's own byte i, for the spare bits of both are 0;
+// The bits of byte i of the data that are below no null. Of booleans they are those of the validity's own byte i, for the spare bits of both are 0;
 // elsewhere all or none of a digit's, as its row is valid or not, where a row has `each` digits.
-fn kept_bits(validity: &[u8], kind: u64, each: usize, i: usize) -> u8 {
-    if kind == 2 {
+fn kept_bits(validity: &[u8], kind: Kind, each: Option<usize>, i: usize) -> u8 {
+    if kind == Kind::Boolean {
         return validity_byte(validity, i);
     }
     let first = i.saturating_mul(2);
     kept_digit(validity, each, first) << 4 | kept_digit(validity, each, first.saturating_add(1))
 }
 
-fn kept_digit(validity: &[u8], each: usize, digit: usize) -> u8
+fn kept_digit(validity: &[u8], each: Option<usize>, digit: usize) -> u8
     ensures { result < 16 }
 {
-    if each != 0 && is_valid(validity, digit / each) {
-        15
-    } else {
-        0
+    match each.and_then(|each| digit.checked_div(each)) {
+        Some(row) if is_valid(validity, row) => 15,
+        _ => 0,
     }
 }
 
 impl Wanted {
     // Puts zeros below the nulls of `count` rows, and says whether other bytes were there.
-    fn zero_nulls(&mut self, kind: u64, count: u64) -> bool {
-        let digits = self.data.len().saturating_mul(2) as u64;
-        let each = digits.checked_div(count).unwrap_or(0) as usize;
+    fn zero_nulls(&mut self, kind: Kind, count: u64) -> bool {
+        let digits = self.data.len().saturating_mul(2);
+        let each = digits.checked_div(count as usize);
         let mut zeroed = false;
         for (i, byte) in self.data.iter_mut().enumerate() {
             let kept = kept_bits(&self.validity, kind, each, i);
@@ -72,9 +72,13 @@ pub fn run_published(alloc: Global, line: &[u8], tally: &mut Tally<'_>) -> Resul
     let Columns::One(column) = &case.columns else {
         return Err(Difference::Unreadable.into());
     };
-    let kind = column.kind;
+    let kind = Kind::from(column.kind);
     let offset_width = if column.offset_width == 4 { 4 } else { 8 };
-    if matches!(kind, 1 | 2 | 5 | 6) {
+    let in_place = matches!(
+        kind,
+        Kind::Primitive | Kind::Boolean | Kind::FixedSizeList | Kind::FixedSizeBinary
+    );
+    if in_place {
         if MOST_LINE < line.len() {
             return Err(Difference::Unreadable.into());
         }

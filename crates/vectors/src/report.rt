@@ -1,6 +1,7 @@
 // What is said of a case, the first that is not as it should be, and of a file: how many of its cases differ.
 use std::alloc::{AllocError, AllocFailed};
 use std::{fmt, io};
+use tables::table::Kind;
 
 // A number of the answer.
 #[derive(Clone, Copy, Debug, PartialEq, Eq)]
@@ -106,14 +107,35 @@ impl<T: Drop> From<AllocFailed<T>> for Failure {
     }
 }
 
-// How the cases of a file went so far. `zeroed` counts, by kind, the published answers that have other bytes than zeros below a null; None where none is
-// published.
+// How many published answers have other bytes than zeros below a null, of each kind that has bytes there.
+#[derive(Clone, Copy, Debug, Default)]
+struct Zeroed {
+    primitive: u64,
+    boolean: u64,
+    lists: u64,
+    binary: u64,
+}
+
+impl Zeroed {
+    fn count(&mut self, kind: Kind) {
+        let n = match kind {
+            Kind::Primitive => &mut self.primitive,
+            Kind::Boolean => &mut self.boolean,
+            Kind::FixedSizeList => &mut self.lists,
+            Kind::FixedSizeBinary => &mut self.binary,
+            Kind::VariableBytes | Kind::List | Kind::Unknown => return,
+        };
+        *n = n.saturating_add(1);
+    }
+}
+
+// How the cases of a file went so far. `zeroed` is None where no answer is published.
 #[derive(Drop)]
 pub struct Tally<'a> {
     pub name: &'a str,
     cases: u64,
     differ: u64,
-    zeroed: Option<[u64; 7]>,
+    zeroed: Option<Zeroed>,
 }
 
 impl<'a> Tally<'a> {
@@ -129,7 +151,7 @@ impl<'a> Tally<'a> {
     // Of published answers.
     pub fn published(name: &'a str) -> Tally<'a> {
         Tally {
-            zeroed: Some([0; 7]),
+            zeroed: Some(Zeroed::default()),
             ..Tally::new(name)
         }
     }
@@ -157,11 +179,9 @@ impl<'a> Tally<'a> {
     }
 
     // Counts a published answer of some kind that has other bytes than zeros below a null.
-    pub fn count_zeroed(&mut self, kind: u64) {
-        if let Some(zeroed) = &mut self.zeroed
-            && let Some(n) = zeroed.get_mut(kind as usize)
-        {
-            *n = n.saturating_add(1);
+    pub fn count_zeroed(&mut self, kind: Kind) {
+        if let Some(zeroed) = &mut self.zeroed {
+            zeroed.count(kind);
         }
     }
 
@@ -184,10 +204,15 @@ impl<'a> Tally<'a> {
         let Some(zeroed) = self.zeroed else {
             return Ok(());
         };
-        let [_, fixed, bits, _, _, lists, binary] = zeroed;
+        let Zeroed {
+            primitive,
+            boolean,
+            lists,
+            binary,
+        } = zeroed;
         let name = self.name;
         println!(rt;
-            "{name}: zeros in place of bytes below nulls, in answers of kinds 1, 2, 5 and 6: {fixed}, {bits}, {lists}, {binary}"
+            "{name}: zeros in place of bytes below nulls, in answers of kinds 1, 2, 5 and 6: {primitive}, {boolean}, {lists}, {binary}"
         )
     }
 }
