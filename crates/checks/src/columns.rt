@@ -12,7 +12,7 @@ use tables::refusal::Refusal;
 pub fn check_columns(column: &Column<'_>, indices: &IndexColumn<'_>) -> Result<(), Refusal>
     ensures { checked_numbers result ≡ form_refusal (column_of column.now) (index_column_of indices.now) }
 {
-    // by `let .. else`, the form that document 01 names for a refusal which is passed up
+    // by `let .. else`, the form that the paper names for a refusal which is passed up
     let Err(refusal) = check_lent(column, indices) else {
         return check_offsets(column);
     };

@@ -51,7 +51,8 @@ pub fn check_column(column: &Column<'_>, indices: &IndexColumn<'_>) -> Result<Le
     measure_column(column, indices)
 }
 
-// The data bytes of so many rows that are written; of variable width the last offset tells them, and no length is added up again.
+// The data bytes of so many rows that are written; of variable width the last offset tells them, and no length is added up again. (Its other arms are those
+// of `measure`: a function of the two would be three lines more than they are.)
 fn data_written(layout: Layout, offset_width: u64, count: u64, out_offsets: &[u8]) -> u64
     requires { OffsetsIn layout offset_width count out_offsets.now }
     ensures { result ≡ data_in layout offset_width count out_offsets.now }

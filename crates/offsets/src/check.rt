@@ -16,7 +16,7 @@ use tables::column::Column;
 use tables::refusal::Refusal;
 use tables::table::Layout;
 
-// The offsets of so many rows, of W bytes each: arrow's `OffsetBuffer`. The width is a const parameter, so that of the widths of `number_at` one is left
+// The offsets of so many rows, of W bytes each, and what may lie after them: arrow's `OffsetBuffer`. The width is a const parameter, so that of the widths of `number_at` one is left
 // before the compiler chooses what it puts in line.
 #[derive(Clone, Copy)]
 struct OffsetBuffer<'a, const W: usize> {
@@ -100,7 +100,8 @@ fn bad_offset(bytes: &[u8], w: usize, rows: usize, most: u64) -> Option<u64>
     }
 }
 
-// How many entries of `unit` bytes n bytes hold. By literals: a division of 64 bits by any other number is a call on a core of 32 bits.
+// How many entries of `unit` bytes n bytes hold. By literals: a division of 64 bits by any other number is a call on a core of 32 bits. (A shift by the zeros
+// below the unit's bit is one line, and its proof the six cases.)
 fn entries_in(n: u64, unit: u64) -> u64
     requires { is_width unit ≡ true }
     ensures { result ≡ n / unit }

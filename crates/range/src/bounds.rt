@@ -15,7 +15,7 @@ use buffers::bit::is_valid;
 use tables::column::IndexColumn;
 use tables::refusal::Refusal;
 
-// What the scan answers, and how many indices it looked at.
+// What the scan answers, and how many indices it looked at: a count beside the Result, for it tells how far the scan went in both cases.
 #[derive(Clone, Copy, Debug, PartialEq, Eq)]
 pub struct Scanned {
     pub checked: Result<(), Refusal>,

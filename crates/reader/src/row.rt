@@ -54,7 +54,7 @@ fn find_row<'a>(
     Some(&data[from..to])
 }
 
-// The row's bytes, where they lie; where there is no such row, an empty part at the start of the data.
+// The row's bytes, where they lie; where there is no such row an empty part at the start of the data, and no Option: so the paper has it.
 // (The buffers are apart, and no `Column`: of them the data alone has to live as long as the part.)
 pub fn read_row<'a>(
     table: Table,

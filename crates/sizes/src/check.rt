@@ -1,5 +1,6 @@
 // Refusals 1, 2 and 3: kinds and widths, limits, and the lengths of buffers. Every number may be any: products are made only
-// after the tests that bound them.
+// after the tests that bound them. Kinds and layouts stand beside the table that they are of, as in the definitions: each is found once.
+// Tests are joined by `|` and `&`: with `||` and `&&` 40 rows of kind 4 with nulls took 336 instructions each on x86-64 in place of 320.
 ghost use Rattle.std.specs.Prelude.{◌≡◌, false, ◌+◌, ◌≤◌};
 ghost use Rattle.bits.specs.Bits.{bytes_for};
 ghost use Rattle.tables.specs.Columns.{column_of, index_column_of};
