@@ -1,4 +1,4 @@
-// The blocks that the numbers name, one after the other, where a validity is there: zeros for each row that is not valid. They are copied from 32 zeros that
+// The blocks that the numbers name, one after the other, where a validity is there: zeros for each row that is not valid. They are copied from zeros that
 // the caller lends. A byte of the validity is read once, for eight rows.
 ghost use Rattle.std.specs.Prelude.{◌≡◌, false, ◌+◌, ◌*◌, ◌^◌, ◌≤◌, ◌<◌};
 ghost use Rattle.bits.specs.Sequences.{concat};

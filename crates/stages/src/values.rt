@@ -11,7 +11,7 @@ ghost use Rattle.gathers.specs.Ready.{Ready, NoOverflow, HasRoom, stored_offsets
 ghost use Rattle.gathers.specs.Buffers.{Validates};
 
 use bitmaps::bit::BooleanBuffer;
-use blocks::zeros::Zeros;
+use blocks::zeros::{ZEROS, Zeros};
 use fixed::take::{
     take_boolean, take_fixed_size_binary, take_fixed_size_list_primitive, take_native,
 };
@@ -61,7 +61,7 @@ pub fn take_values(
         validity: valid,
     };
     // what null rows are copied from: here, and not where they are copied, for the compiler's sake (widths/src/dispatch.rt)
-    let zeros = [0u8; 32];
+    let zeros = [0u8; ZEROS];
     let zeros = Zeros { bytes: &zeros };
     let width = table.width as usize;
     let size = table.size as usize;
