@@ -4,6 +4,7 @@
 ghost use Rattle.std.specs.Prelude.{◌≡◌, true, false, ◌&&◌, ℕ, ◌+◌, ◌*◌, ◌^◌, ◌≤◌, ◌<◌, nat_lt, length};
 ghost use Rattle.bits.specs.Bits.{bit_value, bit_at, bytes_for, byte_of, pack, is_absent, valid_at};
 ghost use Rattle.bits.specs.Bytes.{overwrite};
+ghost use Rattle.gathers.specs.Buffers.{taken_bit};
 ghost use Rattle.tables.specs.Columns.{index_column_of};
 ghost use Rattle.tables.specs.Answers.{passes};
 ghost use Rattle.tables.specs.Refusals.{index_refusal};
@@ -44,7 +45,7 @@ impl BooleanBuffer<'_> {
     {
         let w = indices.indices.width as usize;
         let v = (valid >> t) & 1;
-        let at = self.offset + number_at(indices.data, w, p + t) as usize * v as usize;
+        let at = self.offset + number_at(indices.data, w, p + t) as usize * usize::from(v);
         let b = self.values[at / 8];
         ((b >> (at % 8)) & v) << t
     }
@@ -72,6 +73,24 @@ impl BooleanBuffer<'_> {
         bits_at(self.values, self.offset + p, n)
     }
 
+    // The n bits of the output from index p on, masked: a byte, its other bits 0.
+    fn take_masked(&self, indices: &IndexColumn<'_>, mask: &[u8], p: usize, n: usize) -> u8
+        requires reached { Reached self.now.offset self.now.values.now (index_column_of indices.now) }
+        requires mask_there { MaskThere indices.now.indices.count mask.now }
+        requires few { (0 < n) × (n ≤ 8) × (p + n ≤ indices.now.indices.count) }
+        ensures { result ≡ byte_of (λ t. nat_lt t n
+            && (taken_bit self.now.values.now self.now.offset (index_column_of indices.now) (p + t) && valid_at mask.now 0 (p + t))) }
+    {
+        let mask_bits = BooleanBuffer {
+            values: mask,
+            offset: 0,
+            len: indices.indices.count,
+        };
+        let valid = validity_of(indices).valid_byte(p, n);
+        let kept = mask_bits.valid_byte(p, n);
+        self.take_byte(indices, valid, p, n) & kept
+    }
+
     // Writes the bits that the indices name, masked by a byte at a time: whole bytes, then the bits that are left. A function of its own, so that the
     // compiler makes its loops for indices and masks that are there and not. The bits and the indices come by value: for all that the compiler knows, a
     // store to out might change what a reference shows.
@@ -83,30 +102,18 @@ impl BooleanBuffer<'_> {
         ensures { out.new ≡ overwrite (taken_bits self.entry.values.now self.entry.offset (index_column_of indices.entry) mask.now) out.old }
     {
         let count = indices.indices.count as usize;
-        let validity = validity_of(&indices);
-        let mask_bits = BooleanBuffer {
-            values: mask,
-            offset: 0,
-            len: indices.indices.count,
-        };
         let whole = count / 8;
         for k in 0..whole {
-            let p = 8 * k;
-            let valid = validity.valid_byte(p, 8);
-            let kept = mask_bits.valid_byte(p, 8);
-            out[k] = self.take_byte(&indices, valid, p, 8) & kept;
+            out[k] = self.take_masked(&indices, mask, 8 * k, 8);
         }
         let rest = count % 8;
-        if rest == 0 {
-            return;
+        if rest != 0 {
+            out[whole] = self.take_masked(&indices, mask, 8 * whole, rest);
         }
-        let p = 8 * whole;
-        let valid = validity.valid_byte(p, rest);
-        let kept = mask_bits.valid_byte(p, rest);
-        out[whole] = self.take_byte(&indices, valid, p, rest) & kept;
     }
 
-    // Writes the bits that the indices name; a mask that is there, from its bit 0 on, says which are kept.
+    // Writes the bits that the indices name; a mask that is there, from its bit 0 on, says which are kept. It is a validity as it lies in a buffer: an absent
+    // one is an empty slice, and keeps all (see `is_valid` in buffers).
     pub fn take_bits(&self, indices: &IndexColumn<'_>, mask: &[u8], out: &mut [u8])
         requires in_range { InRange self.now.len (index_column_of indices.now) }
         requires some { is_absent self.now.values.now ≡ true → self.now.len ≡ 0 }

@@ -76,18 +76,18 @@ pub fn take_fixed_size_list_primitive(
     take_native(data, size * width, indices, zeros, out_data);
 }
 
-// Rust's `take_boolean`: rows of one bit. The indices come with their own validity, and that of the output masks a byte at a time.
+// Rust's `take_boolean`: rows of one bit. The indices come with their own validity, and the mask is that of the output.
 pub fn take_boolean(
     values: &BooleanBuffer<'_>,
     indices: &IndexColumn<'_>,
-    valid: &[u8],
+    mask: &[u8],
     out_data: &mut [u8],
 )
     requires in_range { InRange values.now.len (index_column_of indices.now) }
     requires some { is_absent values.now.values.now ≡ true → values.now.len ≡ 0 }
-    requires mask_there { MaskThere indices.now.indices.count valid.now }
+    requires mask_there { MaskThere indices.now.indices.count mask.now }
     requires room { bytes_for indices.now.indices.count ≤ length out_data.old }
-    ensures { out_data.new ≡ overwrite (taken_bits values.now.values.now values.now.offset (index_column_of indices.now) valid.now) out_data.old }
+    ensures { out_data.new ≡ overwrite (taken_bits values.now.values.now values.now.offset (index_column_of indices.now) mask.now) out_data.old }
 {
-    values.take_bits(indices, valid, out_data);
+    values.take_bits(indices, mask, out_data);
 }

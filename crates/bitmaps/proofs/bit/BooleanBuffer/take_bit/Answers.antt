@@ -5,4 +5,4 @@ use Rattle.bitmaps.proofs.Reading.{mask-le, bit-taken}
 use Rattle.bitmaps.proofs.bit.BooleanBuffer.take_bit.Goals as goal
 
 pub returns : goal.returns
-returns c = bit-taken c.requires c.args.t (omega arith) c.number_at.ensures (bit_at-masked c.args.self.now.values.now _ _ (mask-le c.args.valid c.args.t))
+returns c = rw c.from.ensures (bit-taken c.requires c.args.t (omega arith) c.number_at.ensures (bit_at-masked c.args.self.now.values.now _ _ (mask-le c.args.valid c.args.t)))
