@@ -40,7 +40,7 @@ pub fn check_batch(batch: &Batch<'_>) -> Result<(), Refusal>
 {
     let columns = batch.columns;
     let descriptions = batch.descriptions;
-    // two tests, for of an or the arithmetic after it would know neither half
+    // two tests: past one of both, joined by `||`, it would not be known that the product below fits
     if columns == 0 {
         return Err(Refusal::Limit);
     }

@@ -16,8 +16,8 @@ use tables::column::Column;
 use tables::refusal::Refusal;
 use tables::table::Layout;
 
-// The offsets of so many rows, of W bytes each, and what may lie after them: arrow's `OffsetBuffer`. The width is a const parameter, so that of the widths of `number_at` one is left
-// before the compiler chooses what it puts in line.
+// The offsets of so many rows, of W bytes each, and what may lie after them: arrow's `OffsetBuffer`. The width is a const parameter, so that of the widths of
+// `number_at` one is left before the compiler chooses what it puts in line.
 #[derive(Clone, Copy)]
 struct OffsetBuffer<'a, const W: usize> {
     bytes: &'a [u8],

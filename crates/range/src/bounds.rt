@@ -22,7 +22,8 @@ pub struct Scanned {
     pub looked: u64,
 }
 
-// The scan from place `from` on, no number before which is outside.
+// The scan from place `from` on, no number before which is outside. (By the index column again, and not by its `Numbers`: the validity is read too, and what is
+// told is of the column.)
 fn scan_from<const W: usize>(rows: u64, indices: &IndexColumn<'_>, from: usize) -> Scanned
     requires scannable { Scannable rows (index_column_of indices.now) from }
     requires width { indices.now.indices.width ≡ W }

@@ -15,7 +15,7 @@ fn is_too_narrow<const W: usize>(rows: u64) -> bool
     W < 8 && (1u64 << (8 * W)) <= rows
 }
 
-// So many numbers of W bytes, and a row count that is such a number too.
+// So many numbers of W bytes, after which other bytes may lie, and a row count that is such a number too.
 #[derive(Clone, Copy)]
 pub struct Numbers<'a, const W: usize> {
     pub bytes: &'a [u8],
@@ -28,8 +28,8 @@ pub struct Numbers<'a, const W: usize> {
 }
 
 impl<'a, const W: usize> Numbers<'a, W> {
-    // None where each number of W bytes names a row: then none has to be read. Only of a parameter it is known that a slice holds bytes, so that what W bytes
-    // can hold is said here, of all numbers.
+    // None where each number of W bytes names a row: then none has to be read. What W bytes can hold is said here, for that a slice holds bytes is known where
+    // it is a parameter, and not where it is a field.
     pub fn new(bytes: &'a [u8], count: usize, rows: u64) -> Option<Numbers<'a, W>>
         requires width { is_number_width W ≡ true }
         requires there { count * W ≤ length bytes.now }

@@ -1,5 +1,5 @@
-// A column, an index column and output buffers as they are lent: a description and its buffers, handed on as one value. Functions take a column and an
-// index column apart, as Rust's `take(values, indices)` does: a value of both would name nothing that either of them does not, and tests and blanked tables are of one.
+// A column, an index column and output buffers as they are lent: a description and its buffers, handed on as one value. Functions take a column and an index
+// column apart, as Rust's `take(values, indices)` does: a value of both would name nothing that the two do not, and many a test is of one of them.
 ghost use Rattle.std.specs.Prelude.{◌≡◌};
 ghost use Rattle.tables.specs.Columns.{lengths_at};
 

@@ -184,7 +184,10 @@ fn row(rt: &impl Print, number: u64) -> io::Result<()> {
 // The range scan over so many rows, of an index column that is tested first.
 fn scanned(rows: u64, indices: &IndexColumn<'_>) -> Scanned {
     let none = Column {
-        table: Table { kind: 2, ..Table::default() },
+        table: Table {
+            kind: 2,
+            ..Table::default()
+        },
         data: b"",
         offsets: b"",
         validity: b"",

@@ -1,5 +1,5 @@
-// A case: a line that gives one or several columns, an index column and, after '=', what the gather answers and writes. It is run through the
-// function that C calls, with outputs that have just the room needed and with longer ones; bytes that should be kept are compared like those that should be written.
+// A case: a line that gives one or several columns, an index column and, after '=', what the gather answers and writes. It is run through the function that C
+// calls, with outputs that have just the room needed and with longer ones; bytes that should be kept are compared like those that should be written.
 ghost use Rattle.std.specs.Prelude.{◌≤◌};
 
 use crate::batch::Batch;
