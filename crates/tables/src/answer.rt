@@ -1,8 +1,8 @@
 // The answer of a gather, what was gathered or the refusal, as the four numbers that C sees.
 ghost use Rattle.std.specs.Prelude.{◌≡◌};
-ghost use Rattle.tables.specs.Answers.{place_of, refuse};
+ghost use Rattle.tables.specs.Answers.{refuse};
 
-use crate::refusal::{OutputBuffer, Refusal};
+use crate::refusal::Refusal;
 
 // `total` data bytes were written, and `nulls` of the rows are null. Where a gather answers a refusal, nothing was written.
 #[derive(Clone, Copy, Debug, PartialEq, Eq)]
@@ -31,17 +31,6 @@ fn numbers(number: u64, place: u64, total: u64) -> Answer
     }
 }
 
-// The place in refusal 7.
-fn place_of(buffer: OutputBuffer) -> u64
-    ensures { result ≡ place_of buffer }
-{
-    match buffer {
-        OutputBuffer::Validity => 1,
-        OutputBuffer::Offsets => 2,
-        OutputBuffer::Data => 3,
-    }
-}
-
 impl From<Refusal> for Answer {
     ghost use Rattle.std.specs.Prelude.{◌≡◌};
     ghost use Rattle.tables.specs.Answers.{refusal_numbers};
@@ -56,7 +45,7 @@ impl From<Refusal> for Answer {
             Refusal::Offsets { place } => numbers(4, place, 0),
             Refusal::Range { place } => numbers(5, place, 0),
             Refusal::Overflow { place, total } => numbers(6, place, total),
-            Refusal::Space { buffer, total } => numbers(7, place_of(buffer), total),
+            Refusal::Space { buffer, total } => numbers(7, buffer as u64, total),
             Refusal::Rows => numbers(8, 0, 0),
         }
     }
