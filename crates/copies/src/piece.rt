@@ -18,12 +18,20 @@ pub fn copy_ends<const W: usize>(src: &[u8], dst: &mut [u8], p: usize, n: usize)
     put_bytes(dst, q, y);
 }
 
+// The 16 bytes at p.
+pub fn copy_16(src: &[u8], dst: &mut [u8], p: usize)
+    requires { (p + 16 ≤ length src.now) × (p + 16 ≤ length dst.old) }
+    ensures { dst.new ≡ overwrite_at p (part p 16 src.now) dst.old }
+{
+    copy_ends::<8>(src, dst, p, 16);
+}
+
 // The 64 bytes at p, 16 at a time.
 pub fn copy_64(src: &[u8], dst: &mut [u8], p: usize)
     requires { (p + 64 ≤ length src.now) × (p + 64 ≤ length dst.old) }
     ensures { dst.new ≡ overwrite_at p (part p 64 src.now) dst.old }
 {
     for k in 0..4 {
-        copy_ends::<8>(src, dst, p + 16 * k, 16);
+        copy_16(src, dst, p + 16 * k);
     }
 }

@@ -2,7 +2,7 @@
 ghost use Rattle.std.specs.Prelude.{◌≡◌, ◌≤◌, ◌<◌, length};
 ghost use Rattle.bits.specs.Bytes.{overwrite};
 
-use crate::piece::{copy_64, copy_ends};
+use crate::piece::{copy_16, copy_64, copy_ends};
 
 // Fewer than 8.
 pub fn copy_narrow(src: &[u8], dst: &mut [u8])
@@ -31,10 +31,10 @@ fn copy_middle(src: &[u8], dst: &mut [u8])
     let n = src.len();
     let last = n - 16;
     let second = last.min(16);
-    copy_ends::<8>(src, dst, 0, 16);
-    copy_ends::<8>(src, dst, second, 16);
-    copy_ends::<8>(src, dst, last - second, 16);
-    copy_ends::<8>(src, dst, last, 16);
+    copy_16(src, dst, 0);
+    copy_16(src, dst, second);
+    copy_16(src, dst, last - second);
+    copy_16(src, dst, last);
 }
 
 // More than 64: 64 a turn, and a last turn that may overlap the one before it.
@@ -77,10 +77,10 @@ fn copy_turns(src: &[u8], dst: &mut [u8])
     let last = n - 16;
     let mut k = 0;
     while k < last {
-        copy_ends::<8>(src, dst, k, 16);
+        copy_16(src, dst, k);
         k += 16;
     }
-    copy_ends::<8>(src, dst, last, 16);
+    copy_16(src, dst, last);
 }
 
 // Of any length. Rows of a fixed size are as long as the one before, so that turns are guessed, and fewer bytes are stored twice.

@@ -10,5 +10,5 @@ loop-k-preserved c =
     record {
       copied =
           rw next
-          (carried-next (16 * at.k) 16 c.args.p c.args.src.now c.args.dst.now (omega (arith, c.requires)) (omega (arith, c.requires)) at.invariant.copied c.copy_ends.ensures);
+          (carried-next (16 * at.k) 16 c.args.p c.args.src.now c.args.dst.now (omega (arith, c.requires)) (omega (arith, c.requires)) at.invariant.copied c.copy_16.ensures);
     }

@@ -9,5 +9,5 @@ pub returns : goal.returns
 returns c =
     let s = c.args.src.now in
     four 16 _ (length s) s c.args.dst.now (c.requires.0, c.requires.1) (omega arith) (omega arith)
-    c.copy_ends.ensures c.copy_ends-2.ensures c.copy_ends-3.ensures c.copy_ends-4.ensures
+    c.copy_16.ensures c.copy_16-2.ensures c.copy_16-3.ensures c.copy_16-4.ensures
     ∙ ap (λ (t : List ℕ). overwrite t c.args.dst.now) (take-length s)

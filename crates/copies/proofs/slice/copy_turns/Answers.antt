@@ -9,7 +9,7 @@ loop-k-preserved c =
     record {
       within = omega arith;
       copied =
-          copied_more 16 at.k at.k c.args.src.now c.args.dst.now (omega arith) (omega arith) (omega arith) at.invariant.copied c.copy_ends.ensures;
+          copied_more 16 at.k at.k c.args.src.now c.args.dst.now (omega arith) (omega arith) (omega arith) at.invariant.copied c.copy_16.ensures;
     }
 
 pub returns : goal.returns
@@ -17,4 +17,4 @@ returns c =
     let s = c.args.src.now in
     let d = c.args.dst.now in
     copied_all (length s - 16 + 16) s d (omega arith)
-    (copied_more 16 (length s - 16) c.loop-k.k s d (omega arith) (omega arith) (omega arith) c.loop-k.invariant.copied c.copy_ends-2.ensures)
+    (copied_more 16 (length s - 16) c.loop-k.k s d (omega arith) (omega arith) (omega arith) c.loop-k.invariant.copied c.copy_16-2.ensures)
