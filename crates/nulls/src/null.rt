@@ -9,7 +9,7 @@ ghost use Rattle.gathers.specs.Ready.{InRange};
 ghost use Rattle.nulls.specs.Nulls.{taken_validity, taken_nulls};
 
 use bitmaps::bit::{BooleanBuffer, validity_of};
-use bits::number::{low, write_u64};
+use bits::number::{low, low_bits, write_u64};
 use buffers::bit::count_set_bits;
 use tables::column::IndexColumn;
 
@@ -22,7 +22,7 @@ fn ones(left: usize) -> u64
     if 64 <= left {
         return u64::MAX;
     }
-    u64::MAX >> (64 - left)
+    low_bits(u64::MAX, left)
 }
 
 // Sets the first n bits of out, and clears the spare bits of their last byte: eight bytes a turn, then the bytes of the last word.

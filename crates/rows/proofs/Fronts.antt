@@ -5,7 +5,6 @@ use mathlib.Core.List.{List, ◌∷◌, ◌++◌}
 use Prim.Native.Nat.{ℕ, zero, suc, ◌+◌, ◌-◌, ◌*◌, ◌%◌, ◌/◌, ◌^◌, ◌≤◌, ◌<◌}
 use native.Mathlib.Nat.{zero-add, suc-add}
 use native.Mathlib.Omega.{arith}
-use lib.Bits.{bit_and, and_mask}
 use lib.Dec.{leb, ltb}
 use lib.ListN.{length, take, drop, replicate, length-append, length-replicate}
 use lib.Pow.{mod-mod-pow, field}
@@ -35,13 +34,12 @@ kept_of n w x h =
     let e : n + (w - n) ≡ w = omega arith in
     subst (λ (k : ℕ). to_little_endian k (x % 2 ^ (8 * n)) ≡ take n (to_little_endian k x) ++ replicate (w - n) 0) e (kept n (w - n) x)
 
-pub masked : (n : ℕ) (s d : List ℕ) {x mask : ℕ} {y : List ℕ} → AllBytes s → n < 8 → 8 ≤ length s → x ≡ little_endian (part 0 8 s) → mask ≡ 2 ^ (8 * n) - 1
-    → y ≡ overwrite_at 0 (to_little_endian 8 (bit_and x mask)) d → y ≡ overwrite (padded n s) d
-masked n s d {x} {mask} b h l e g k =
+pub masked : (n : ℕ) (s d : List ℕ) {x low : ℕ} {y : List ℕ} → AllBytes s → n < 8 → 8 ≤ length s → x ≡ little_endian (part 0 8 s) → low ≡ x % 2 ^ (8 * n)
+    → y ≡ overwrite_at 0 (to_little_endian 8 low) d → y ≡ overwrite (padded n s) d
+masked n s d {x} b h l e g k =
     let first : take n (to_little_endian 8 x) ≡ take n s = ap (take n) (ap (to_little_endian 8) e ∙ to_little_endian-part 8 0 s b l) ∙ take-take n 8 s (omega arith) in
-    let low : bit_and x mask ≡ x % 2 ^ (8 * n) = ap (bit_and x) g ∙ and_mask x (8 * n) in
     k
-    ∙ ap (λ (z : ℕ). overwrite (to_little_endian 8 z) d) low
+    ∙ ap (λ (z : ℕ). overwrite (to_little_endian 8 z) d) g
     ∙ ap (λ (t : List ℕ). overwrite t d) (kept_of n 8 x (omega arith) ∙ ap (λ (t : List ℕ). t ++ replicate (8 - n) 0) first)
 
 -- ---- what is written begins with the bytes of the row, and is no longer than may be written

@@ -1,6 +1,7 @@
-// The valid rows, which the bits of the output's validity name, from the lowest on. Null rows have no bytes, so nothing is done for them and no branch
-// asks for them. Nothing is read or written but the data and the output as they are lent: the caller cuts the data to what the offsets need, and here the
-// output is cut to what the rows use. How long it is stays with the functions: it is lent to be written, and no struct here holds it.
+// The valid rows of a column of variable width, copied to the front of the output. Which rows are valid is read from the output's own validity, 64 rows as one
+// word, from its lowest bit that is set to the next. A null row has no bytes, so nothing is done for it, and no branch asks whether a row is null.
+// Rows of a few bytes are read and written by 8, but never past the ends of the data and the output. So the caller cuts the data to what the offsets need, and
+// `copy_rows` cuts the output to what the rows use. Its length is a clause of each function: it is lent to be written, and `Sources` holds what is read.
 ghost use Rattle.std.specs.Prelude.{◌≡◌, ◌+◌, ◌-◌, ◌*◌, ◌^◌, ◌≤◌, ◌<◌, length};
 ghost use Rattle.bits.specs.Sequences.{concat};
 ghost use Rattle.bits.specs.Bytes.{part, overwrite};
@@ -9,7 +10,7 @@ ghost use Rattle.bits.specs.Bits.{bytes_for};
 ghost use Rattle.rows.specs.Rows.{sources_at, row_at, row_bytes, written_row, RowThere, CopyReady, RowsCopied, rows_to, AreBytes};
 
 use crate::front::copy_front;
-use bits::number::{number_at, read_u64};
+use bits::number::{number_at, read_rest, read_u64};
 
 // What the rows are copied by: the data and its offsets, of OW bytes, an entry of `unit` bytes, the indices, the offsets of the output, and the validity that
 // is written for it. The rows that it shows are there.
@@ -102,9 +103,8 @@ impl<const OW: usize> Sources<'_, OW> {
     }
 }
 
-// The number of the bytes from k up to n, of which it takes at most 8: the validity of up to 64 rows. That they are bytes is known of a slice that is lent,
-// and not of one in a struct, so it is said here.
-#[tactic(auto, using(bits::proofs::Numbers::number_down))]
+// The bytes of the validity from k up to n, but at most 8, as one number: the bits of up to 64 rows. The second clause says that they are bytes. The check
+// knows that of a slice that is a parameter, as here, and not of one that is a field, as the caller's is.
 fn word_at(valid: &[u8], k: usize, n: usize) -> u64
     requires { (k ≤ n) × (n ≤ length valid.now) }
     ensures number { result ≡ little_endian (part k (8 - (8 - (n - k))) valid.now) }
@@ -113,9 +113,5 @@ fn word_at(valid: &[u8], k: usize, n: usize) -> u64
     if 8 <= n - k {
         return read_u64(valid, k);
     }
-    let mut word: u64 = 0;
-    for i in (k..n).rev() {
-        word = word * 256 + u64::from(valid[i]);
-    }
-    word
+    read_rest(valid, k, n)
 }

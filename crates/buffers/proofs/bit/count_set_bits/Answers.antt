@@ -1,10 +1,9 @@
--- A count of bits is at most 8 for each byte, and the word at most the seven bytes that are left: so each sum fits.
-use Rattle.std.proofs.Common.{◌≡◌, ◌+◌, ◌-◌, ◌*◌, ◌/◌, ◌^◌, ◌≤◌, ap, arith}
-use native.Mathlib.Nat.{pow-le-pow_right}
+-- A count of bits is at most 8 for each byte, so each sum fits.
+use Rattle.std.proofs.Common.{ℕ, ◌≡◌, ◌+◌, ◌-◌, ◌*◌, ◌/◌, ap, arith}
 use lib.Count.{ones, ones-le}
-use lib.Dec.{lit<}
 use lib.ListN.{length}
-use Rattle.bits.proofs.Words.{set_bits-le, set_bits-more, set_bits-below, word_below}
+use Rattle.bits.specs.Routines.{set_bits}
+use Rattle.bits.proofs.Words.{set_bits-le, set_bits-more}
 use Rattle.buffers.proofs.bit.count_set_bits.Goals as goal
 
 pub loop-k-init : goal.loop-k-init
@@ -19,24 +18,14 @@ loop-k-preserved c =
     let next : (k + 1) * 8 ≡ k * 8 + 8 = omega arith in
     record { counted = rw next (omega (arith, set_bits-more 8 (k * 8) c.args.buf.now c.type_inv.buf (omega arith), ap ones c.read_u64.ensures)) }
 
-pub loop-k-2-preserved : goal.loop-k-2-preserved
-loop-k-2-preserved c =
-    let at = c.loop-k-2 in
-    let n = length c.args.buf.now in
-    let one : at.k + 1 - n / 8 * 8 ≡ at.k - n / 8 * 8 + 1 = omega arith in record {
-      room = rw (one, c.from.ensures) (word_below (at.k - n / 8 * 8) at.word _ at.invariant.room (c.type_inv.buf at.k).fits);
-      counted = rw c.from.ensures (set_bits-below at.k c.args.buf.now c.loop-k.t at.word c.type_inv.buf (omega arith) at.invariant.counted);
-    }
-
-pub overflow_mul-word : goal.overflow_mul-word
-overflow_mul-word c =
-    let room : 256 ^ (c.loop-k-2.k - length c.args.buf.now / 8 * 8) ≤ 256 ^ 7 = pow-le-pow_right (lit< tt) {j = 7} (omega arith) in
-    omega arith
-
-pub overflow_add-word : goal.overflow_add-word
-overflow_add-word c =
-    let room : 256 ^ (c.loop-k-2.k - length c.args.buf.now / 8 * 8) ≤ 256 ^ 7 = pow-le-pow_right (lit< tt) {j = 7} (omega arith) in
-    omega (arith, (c.type_inv.buf c.loop-k-2.k).fits)
-
 pub overflow_add-result : goal.overflow_add-result
-overflow_add-result c = omega (arith, set_bits-le c.loop-k-2.k c.args.buf.now)
+overflow_add-result c = omega (arith, ones-le 64 c.read_rest-rest.result c.read_rest-rest.type_inv, set_bits-le (c.loop-k.k * 8) c.args.buf.now)
+
+pub returns : goal.returns
+returns c =
+    let s = c.args.buf.now in
+    let k = length s / 8 * 8 in
+    let end : c.loop-k.k * 8 ≡ k = omega arith in
+    let all : k + (length s - k) ≡ length s = omega arith in
+    let more = set_bits-more (length s - k) k s c.type_inv.buf (omega arith) in
+    omega (arith, c.loop-k.invariant.counted, ap (λ (n : ℕ). set_bits n s) end, ap ones c.read_rest-rest.ensures, more, ap (λ (n : ℕ). set_bits n s) all)

@@ -1,15 +1,7 @@
--- The mask is a power of 2, less 1; where no bit is cleared there is none.
-use Rattle.std.proofs.Common.{ℕ, ◌≡◌, ◌+◌, ◌-◌, ◌%◌, ◌^◌, sym, ap, ◌∙◌, arith, bit_and}
-use lib.Bits.{and_mask}
+-- A mask of 8 bits or more clears none of the lowest byte.
+use Rattle.std.proofs.Common.{ℕ, ◌≡◌, ◌+◌, ◌-◌, ◌%◌, ◌^◌, sym, ap, ◌∙◌, arith}
 use lib.Pow.{mod-mod-pow}
-use Rattle.bits.proofs.Words.{power-of}
 use Rattle.buffers.proofs.bit.lowest.Goals as goal
-
-pub returns-then-left-lt8 : goal.returns-then-left-lt8
-returns-then-left-lt8 c =
-    c.low.ensures
-    ∙ ap (λ (m : ℕ). bit_and c.args.v (m - 1) % 256) (power-of c.args.left (omega arith))
-    ∙ ap (λ (m : ℕ). m % 256) (and_mask c.args.v c.args.left)
 
 pub returns : goal.returns
 returns c =

@@ -1,5 +1,5 @@
--- All ones, shifted by as many as are too many.
-use Rattle.std.proofs.Common.{ℕ, ◌≡◌, ◌-◌, ◌/◌, ◌^◌, sym, ap, ◌∙◌, arith}
+-- All ones, those from `left` on cleared, if there are any.
+use Rattle.std.proofs.Common.{◌≡◌, ◌%◌, ◌^◌, sym, ap, ◌∙◌, ◌≤◌, arith, mod-eq_of_lt, pow_mono}
 use Rattle.bits.specs.Numbers.{to_little_endian}
 use Rattle.bits.proofs.Words.{ones-word}
 use Rattle.nulls.proofs.null.ones.Goals as goal
@@ -7,8 +7,9 @@ use Rattle.nulls.proofs.null.ones.Goals as goal
 pub returns-then-left-ge64 : goal.returns-then-left-ge64
 returns-then-left-ge64 c =
     let left = c.args.left in
-    let e : 64 - left ≡ 0 = omega arith in
-    ap (λ (k : ℕ). to_little_endian 8 (18446744073709551615 / 2 ^ k)) (sym e) ∙ ones-word 8 left
+    let most : 2 ^ 64 ≤ 2 ^ left = pow_mono {i = 64} (omega arith) in
+    let whole : 18446744073709551615 % 2 ^ left ≡ 18446744073709551615 = mod-eq_of_lt (omega arith) in
+    ap (to_little_endian 8) (sym whole) ∙ ones-word 8 left
 
 pub returns : goal.returns
-returns c = ones-word 8 c.args.left
+returns c = ap (to_little_endian 8) c.low_bits.ensures ∙ ones-word 8 c.args.left
