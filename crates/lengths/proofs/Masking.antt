@@ -13,7 +13,7 @@ use Rattle.bits.specs.Numbers.{number_at}
 use Rattle.bits.specs.Bits.{bit_value, bit_at, valid_at}
 use Rattle.bits.proofs.Tests.{and_right}
 use Rattle.bits.proofs.Bits.{bit_value-lt, bit-and, valid_at-absent, valid_at-present}
-use Rattle.lengths.specs.declared.row.Taken.{Taken}
+use Rattle.lengths.specs.declared.row.MaskedRow.{MaskedRow}
 use Rattle.lengths.specs.Entries.{Selection, row_number, is_selected, is_shown, taken_row, entries_at, SelectionThere, EntriesThere}
 
 -- a bit that was read, as a number
@@ -63,14 +63,14 @@ module _ {p : Selection} {j : ℕ} (h : SelectionThere p j) {v : ℕ} (e : v ≡
 
 -- ---- the offsets of the row t, which are offset 0 twice where it is null
 
-pub record TakenThere (w : ℕ) (offsets : List ℕ) (valid : Bool) (n : ℕ) (t : Taken) : Type 0 where
+pub record TakenThere (w : ℕ) (offsets : List ℕ) (valid : Bool) (n : ℕ) (t : MaskedRow) : Type 0 where
   pub few : t.row + t.valid < 2 ^ 60
   pub start : t.row * w + w ≤ length offsets
   pub end : (t.row + t.valid) * w + w ≤ length offsets
   pub rises : number_at w offsets t.row ≤ number_at w offsets (t.row + t.valid)
   pub entries : number_at w offsets (t.row + t.valid) - number_at w offsets t.row ≡ entries_at w offsets valid n
 
-pub taken-there : {w : ℕ} {offsets : List ℕ} {valid : Bool} {n : ℕ} → EntriesThere w offsets valid n → {t : Taken} → t ≡ taken_row valid n → TakenThere w offsets valid n t
+pub taken-there : {w : ℕ} {offsets : List ℕ} {valid : Bool} {n : ℕ} → EntriesThere w offsets valid n → {t : MaskedRow} → t ≡ taken_row valid n → TakenThere w offsets valid n t
 unfolding entries_at
 taken-there {w} {offsets} {valid} {n} q {t} e = go valid refl e
   where

@@ -3,7 +3,7 @@ use Rattle.std.specs.Prelude.{ℕ, suc, ◌+◌, ◌-◌, ◌*◌, ◌^◌, ◌�
 use Rattle.std.specs.Borrow.{Bor}
 use Rattle.bits.specs.Numbers.{number_at, is_number_width}
 use Rattle.bits.specs.Bits.{bit_value, is_absent, valid_at}
-use Rattle.lengths.specs.declared.row.Taken.{Taken}
+use Rattle.lengths.specs.declared.row.MaskedRow.{MaskedRow}
 
 -- what selects the output rows, and their offsets: the validity of the rows and the index column, with their bit offsets
 pub record Selection : Type 0 where
@@ -52,7 +52,7 @@ abbrev pub is_shown : Selection → ℕ → Bool
 is_shown p j = is_selected p j && valid_at p.validity p.bit (row_number p j)
 
 -- the row of number n and 1, for an output row that is valid; for one that is null, 0 and 0
-abbrev pub taken_row : Bool → ℕ → Taken
+abbrev pub taken_row : Bool → ℕ → MaskedRow
 taken_row true n = record { row = n; valid = 1 }
 taken_row false n = record { row = 0; valid = 0 }
 

@@ -36,9 +36,10 @@ pub struct Shown<'a, const OW: usize> {
     ghost there: { ShownThere (shown_at OW offsets index_width index_data out_validity) count },
 }
 
-// The row of an output row, and 1; 0 and 0 where the output row is null: numbers that mask others, and no Option, which would be a branch.
+// The row of an output row, and 1; 0 and 0 where the output row is null: numbers that mask others, and no Option, which would be a branch. Where nulls
+// cannot be guessed, a wrong guess costs some 15 cycles (docs/PROVING.md), and the mask a multiplication.
 #[derive(Clone, Copy)]
-struct Taken {
+struct MaskedRow {
     row: usize,
     valid: usize,
 }
@@ -48,7 +49,7 @@ impl Selection<'_> {
 
     // The row of output row j. The width is handed on beside the struct that has it: a literal counts, where the compiler asks whether to put a function in
     // line, only as an argument. Read from the struct, it cost 40 rows of kind 3 from 3 to 8 % more instructions on armv5te, and none on x86-64.
-    fn masked_row(&self, w: usize, j: usize) -> Taken
+    fn masked_row(&self, w: usize, j: usize) -> MaskedRow
         requires width { w ≡ self.now.index_width }
         requires inside { j < self.now.count }
         ensures { result ≡ taken_row (is_shown (selection_of self.now) j) (row_number (selection_of self.now) j) }
@@ -56,10 +57,10 @@ impl Selection<'_> {
         let v = usize::from(is_valid(self.index_validity, self.index_bit, j));
         let r = number_at(self.index_data, w, j) as usize * v;
         if self.validity.is_empty() {
-            return Taken { row: r, valid: v };
+            return MaskedRow { row: r, valid: v };
         }
         let u = usize::from(get_bit(self.validity, self.bit + r)) & v;
-        Taken {
+        MaskedRow {
             row: r * u,
             valid: u,
         }
@@ -86,12 +87,12 @@ impl<const OW: usize> Shown<'_, OW> {
     {
         let v = usize::from(get_bit(self.out_validity, j));
         let row = number_at(self.index_data, self.index_width, j) as usize * v;
-        entries_of(self.offsets, OW, Taken { row, valid: v })
+        entries_of(self.offsets, OW, MaskedRow { row, valid: v })
     }
 }
 
 // How many entries it has: none where it is null, since it then ends where it starts.
-fn entries_of(offsets: &[u8], ow: usize, taken: Taken) -> u64
+fn entries_of(offsets: &[u8], ow: usize, taken: MaskedRow) -> u64
     requires offset_width { is_number_width ow ≡ true }
     requires row_there { (taken.row + taken.valid < 2 ^ 60) × (taken.row * ow + ow ≤ length offsets.now) × ((taken.row + taken.valid) * ow + ow ≤ length offsets.now) }
     requires rising { number_at ow offsets.now taken.row ≤ number_at ow offsets.now (taken.row + taken.valid) }

@@ -10,7 +10,7 @@ use crate::row::{Selection, Shown};
 use bits::number::put_number_at;
 
 // The first output row after which the running total is above a limit, and the total before and after it.
-#[derive(Clone, Copy)]
+#[derive(Clone, Copy, Debug, PartialEq, Eq)]
 pub struct Overflow {
     pub place: u64,
     pub before: u64,

@@ -1,6 +1,6 @@
 // The rows of a column of variable width, gathered. First all offsets, in a loop without a branch: a null row has no entries, so its offset repeats. Then
-// the bytes of the valid rows, to where the offsets say. Wrong guesses of a branch cost more than the second loop. The columns and the outputs stay parameters
-// of each function: what comes back in a struct of `&mut`s that is handed on whole is not proved.
+// the bytes of the valid rows, to where the offsets say. Wrong guesses of a branch cost more than the second loop. The columns are two parameters, as in Rust's
+// `take(values, indices)`. The outputs are parameters of each function, for what comes back in a struct of `&mut`s that is handed on whole is not proved.
 ghost use Rattle.std.specs.Prelude.{◌≡◌};
 ghost use Rattle.tables.specs.Columns.{column_of, index_column_of};
 ghost use Rattle.gathers.specs.Ready.{stored_offsets, stored_data};

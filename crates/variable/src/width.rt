@@ -1,5 +1,6 @@
 // The sum of the entries at the widths of offsets and of indices: each pair of widths has a loop of its own, which waits for nothing else. A number that is
-// known at run time comes to a const parameter only by the arm of a `match`, so that there is an arm for each pair; two matches of four arms would be longer.
+// known at run time comes to a const parameter only by the arm of a `match`, so that there is an arm for each pair. A match of two over a function with a match
+// of four would have two arms fewer and a function more.
 ghost use Rattle.std.specs.Prelude.{◌≡◌, true};
 ghost use Rattle.bits.specs.Sequences.{sum};
 ghost use Rattle.bits.specs.Numbers.{is_number_width};
