@@ -55,6 +55,7 @@ impl Record<'_> {
     }
 }
 
+// Record i. (By its number: of a slice that `chunks_exact` gives, each of three loops would have to show again that it is the record of column i.)
 pub fn describe(descriptions: &[u8], i: usize) -> Description
     requires { (i + 1) * record_bytes ≤ length descriptions.now }
     ensures { result ≡ described_at descriptions.now i }

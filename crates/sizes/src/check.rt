@@ -123,7 +123,7 @@ pub fn check_sizes(
     Ok(())
 }
 
-// Those of a column and an index column as they are lent.
+// Those of a column and an index column as they are lent: no buffer is cut, for each is lent by itself.
 pub fn check_lent(column: &Column<'_>, indices: &IndexColumn<'_>) -> Result<(), Refusal>
     ensures { checked_numbers result ≡ sizes_refusal (column_of column.now) (index_column_of indices.now) }
 {

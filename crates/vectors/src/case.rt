@@ -12,7 +12,7 @@ use std::alloc::{AllocError, Global};
 // What the outputs are filled with.
 const FILL: u8 = 0xEE;
 
-// The numbers of an answer, in their order.
+// The numbers of an answer, in the order that they have in a line and in the answer's bytes.
 const NUMBERS: [Number; 4] = [Number::Number, Number::Place, Number::Total, Number::Nulls];
 
 #[derive(Drop)]
