@@ -1,9 +1,9 @@
 // The named blocks by index width and size: each width, and each common size, as a literal. With the width a number here, the compiler would keep it a
 // variable of the loops (11.6 instructions a row of 4 bytes, in place of 6.1); W makes a function for each width. In `blocks` it is a number: with
 // `take_valid::<W>` the eight rows of a byte would be in line before the size is known, and no size would have a loop of its own. There are two functions,
-// with and without a validity: both loops together were not put in line at each literal, when that was seen (no figure was kept). As a trait whose one method
-// is the loop, with a type for each of the two, the arms stood once: it proved, in a fifth more lines, and without nulls 40 rows of 64 or 100 bytes took 1.5 to
-// 1.7 % more instructions on x86-64 (61.1 a row in place of 60.1, 72.9 in place of 71.8; all others as many).
+// with and without a validity, and so the arms stand twice. As a trait whose one method is the loop, with a type for each of the two, they stood once: it
+// proved, in a fifth more lines, and without nulls 40 rows of 64 or 100 bytes took 1.5 to 1.7 % more instructions on x86-64 (61.1 a row in place of 60.1, 72.9
+// in place of 71.8; all others as many).
 // W, the count and the numbers stay apart, as n and the data do: one value of them would leave six parameters of eight, `Named` would relate it to the same
 // others, and W is to be a literal to the loop, which a field in memory is not (blocks/src/valid.rt).
 ghost use Rattle.std.specs.Prelude.{◌≡◌, []};
