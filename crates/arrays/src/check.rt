@@ -1,7 +1,7 @@
 // The tests of a batch, in their order, before any output byte is written: those of the batch, the columns one by one through overflow, and space over
 // the joined lengths.
-ghost use Rattle.std.specs.Prelude.{◌≡◌, true, false};
-ghost use Rattle.tables.specs.Columns.{index_column_of};
+ghost use Rattle.std.specs.Prelude.{◌≡◌, true, false, if◌then◌else◌};
+ghost use Rattle.tables.specs.Columns.{index_column_of, no_indices};
 ghost use Rattle.tables.specs.Bodies.{column_in};
 ghost use Rattle.tables.specs.Answers.{passes, first_of};
 ghost use Rattle.tables.specs.Stages.{checked_numbers};
@@ -12,15 +12,30 @@ ghost use Rattle.batches.specs.Batch.{batch_lines, arrays_refusals};
 ghost use Rattle.arrays.specs.Told.{batch_of, AllToldOf};
 
 use crate::batch::{Batch, check_batch};
-use described::in_body::{check_alone, check_described, measure_described};
+use described::in_body::{check_rows, measure_described};
 use descriptions::record::describe;
 use stages::space::check_space;
 use tables::column::{IndexColumn, Output};
 use tables::refusal::Refusal;
 use tables::table::{Description, Lengths};
 
-// Refusals 1 to 6 of a column, and where none is met what its rows need. The indices are tested with the first column alone: those after it have as many
-// rows. (`first`, and not the index column that is tested: of a reference that is one or another it was not proved how long it lives.)
+// The index column that a column is tested with: the indices with the first one, and none after that, for the others have as many rows. (Field by field: of
+// a reference to one or the other it was not proved how long it lives.)
+fn tested<'a>(first: bool, indices: &IndexColumn<'a>) -> IndexColumn<'a>
+    ensures { index_column_of result ≡ (if first then index_column_of indices.now else no_indices) }
+{
+    if !first {
+        return IndexColumn::none();
+    }
+    IndexColumn {
+        indices: indices.indices,
+        data: indices.data,
+        validity: indices.validity,
+    }
+}
+
+// Refusals 1 to 6 of a column, and where none is met what its rows need. Each stage has one call: one that has two is not put in line, and hands its answer
+// back in memory, which on some cores is a call of `memset`.
 fn check_next(
     first: bool,
     d: Description,
@@ -30,10 +45,7 @@ fn check_next(
     requires { first ≡ false → InRange (column_in body.now d).table.rows (index_column_of indices.now) }
     ensures { ToldOf (column_in body.now d) (index_column_of indices.now) result }
 {
-    if first {
-        return check_described(d, body, indices);
-    }
-    check_alone(d, body)?;
+    check_rows(d, body, &tested(first, indices))?;
     measure_described(d, body, indices)
 }
 

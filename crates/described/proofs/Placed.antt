@@ -1,8 +1,9 @@
 -- A column that lies in a body, by what the code finds of it: its tests, and the parts of the body that are its buffers. Assumes nothing.
 use mathlib.Core.Path.{◌≡◌, refl, sym, ap, ◌∙◌}
-use mathlib.Core.Bool.{Bool, true, false}
+use mathlib.Core.Bool.{Bool, true, false, cond}
 use mathlib.Core.List.{List}
 use Prim.Native.Nat.{ℕ}
+use native.Mathlib.Nat.{not-suc-le-zero}
 use lib.ListN.{length}
 use Rattle.std.specs.Prelude.{Result, Ok, Err}
 use Rattle.tables.specs.declared.answer.Answer.{Answer}
@@ -15,31 +16,28 @@ use Rattle.tables.specs.Kinds.{kind_of, uses_of}
 use Rattle.tables.specs.Columns.{Column, IndexColumn, lengths_of, index_lengths_of, no_indices}
 use Rattle.tables.specs.Bodies.{some_cut, column_in}
 use Rattle.tables.specs.Stages.{Checked, checked_numbers, ◌or_else◌, form_refusal, stated_refusal, sizes_refusal, offsets_refusal}
-use Rattle.tables.specs.Refusals.{index_refusal, column_refusal, WellFormed}
+use Rattle.tables.specs.Refusals.{index_refusal, WellFormed}
 use Rattle.tables.specs.Bounds.{Sized}
-use Rattle.tables.specs.Answers.{accept, passes, first_of}
-use Rattle.gathers.specs.Gather.{through_lines}
+use Rattle.tables.specs.Answers.{accept, passes}
 use Rattle.gathers.specs.Taken.{taken}
 use Rattle.gathers.specs.Stages.{range_refusal, overflow_refusal}
 use Rattle.gathers.specs.Ready.{InRange, Ready}
-use Rattle.described.specs.Told.{stated_lengths, MeasuredOf, RestToldOf, ToldOf}
+use Rattle.described.specs.Told.{stated_lengths, through_range, MeasuredOf, RestToldOf, ToldOf}
 use Rattle.tables.proofs.Bodies.{column-table, column-cut, column-stated}
-use Rattle.tables.proofs.Facts.{formed, passed-well-formed}
-use Rattle.tables.proofs.Stages.{sizes-passed, stage-passed, stage-refused, form-alone, form-tested}
-use Rattle.gathers.proofs.Stages.{through-stages, range-accepts}
+use Rattle.tables.proofs.Facts.{formed}
+use Rattle.tables.proofs.Lines.{or_else-passes}
+use Rattle.tables.proofs.Stages.{sizes-passed, stage-passed, stage-refused, form-passed, form-alone, form-tested}
+use Rattle.gathers.proofs.Stages.{through-stages, range-accepted, range-accepts}
 use Rattle.described.proofs.Columns.{refuses, lets-pass}
 
 pub well-formed-whole : (c : Column) → WellFormed c → c.cut ≡ false
 well-formed-whole c w = (formed c w).whole
 
--- ---- refusals 1 to 6, by those of the sizes and the rest
+-- ---- refusals 1 to 5 and 1 to 6, by those of the sizes and the rest
 
 module _ (c : Column) (x : IndexColumn) {s : Checked} (e : checked_numbers s ≡ sizes_refusal c x) where
-  pub sizes-stopped : {r : Refusal} → s ≡ Err r → ToldOf c x (Err r)
-  sizes-stopped f =
-      let g = stage-refused c x e f in
-      let n = refuses g f in
-      (sym (ap checked_numbers f) ∙ g ∙ rw (through-stages c x, n, n), tt)
+  pub sizes-stopped : {r : Refusal} → s ≡ Err r → checked_numbers s ≡ through_range c x
+  sizes-stopped f = let g = stage-refused c x e f in let n = refuses g f in g ∙ rw n
 
   module _ (f : s ≡ Ok tt) where
     pub sizes-let-pass : Sized c × (passes (index_refusal x) ≡ true)
@@ -50,39 +48,37 @@ module _ (c : Column) (x : IndexColumn) {s : Checked} (e : checked_numbers s ≡
         let g : offsets_refusal c ≡ form_refusal c x = stage-passed c x e f refl in
         (t.0 ∙ ap (λ (a : Answer). a or_else range_refusal c.table.rows x or_else overflow_refusal (taken c x)) g ∙ sym (through-stages c x), t.1)
 
--- ---- a column by itself, where the index column and its range are known to pass
+    pub form-stopped : {t : Checked} → checked_numbers t ≡ offsets_refusal c → {r : Refusal} → t ≡ Err r → checked_numbers t ≡ through_range c x
+    form-stopped d g = let h = stage-passed c x e f d in let n = refuses h g in h ∙ rw n
 
-module _ (c : Column) {t : IndexColumn} (te : t ≡ no_indices) where
-  form : form_refusal c t ≡ column_refusal c
-  form = ap (form_refusal c) te ∙ form-alone c
+    pub form-passed-on : {t : Checked} → checked_numbers t ≡ offsets_refusal c → t ≡ Ok tt → {a : Answer} → a ≡ range_refusal c.table.rows x → a ≡ through_range c x
+    form-passed-on d g h = let n = lets-pass (stage-passed c x e f d) g in h ∙ rw n
 
-  module _ {s : Checked} (e : checked_numbers s ≡ sizes_refusal c t) where
-    pub alone-stopped : {r : Refusal} → s ≡ Err r → checked_numbers s ≡ column_refusal c
-    alone-stopped f = stage-refused c t e f ∙ form
+-- ---- what refusals 1 to 5 say of those through 6
 
-    pub alone-passed : s ≡ Ok tt → {a : Answer} → a ≡ offsets_refusal c → a ≡ column_refusal c
-    alone-passed f d = stage-passed c t e f d ∙ form
-
-module _ (c : Column) (x : IndexColumn) (known : InRange c.table.rows x) (s : Checked) (e : checked_numbers s ≡ column_refusal c) where
-  accept-last : (t : Bool) → passes (column_refusal c) ≡ t → (column_refusal c or_else accept) ≡ column_refusal c
-  accept-last true p = let w = passed-well-formed c p in rw w
-  accept-last false p = rw p
-
-  through : first_of (through_lines c x) ≡ column_refusal c or_else overflow_refusal (taken c x)
-  through =
-      let f = form-tested c x known.passed in
-      let r = range-accepts c.table.rows x known.range in
-      through-stages c x ∙ (rw (f, r, accept-last (passes (column_refusal c)) refl))
-
-  pub alone-refused : {r : Refusal} → s ≡ Err r → ToldOf c x (Err r)
-  alone-refused f = let n = refuses e f in (sym (ap checked_numbers f) ∙ e ∙ (rw (through, n)), tt)
+module _ (c : Column) (x : IndexColumn) (s : Checked) (e : checked_numbers s ≡ through_range c x) where
+  pub through-stopped : {r : Refusal} → s ≡ Err r → ToldOf c x (Err r)
+  through-stopped f = let n = refuses e f in (sym (ap checked_numbers f) ∙ e ∙ (rw (through-stages c x, n)), tt)
 
   module _ (f : s ≡ Ok tt) where
-    pub alone-ready : Ready c x
-    alone-ready = record { column = passed-well-formed c (lets-pass e f); indices = known }
+    pub through-ready : Ready c x
+    through-ready =
+        let p = or_else-passes (form_refusal c x) (range_refusal c.table.rows x) (lets-pass e f) in
+        let q = form-passed c x p.0 in
+        record { column = q.0; indices = record { passed = q.1; range = p.1 } }
 
-    pub alone-told : (m : Result Lengths Refusal) → MeasuredOf c x m → ToldOf c x m
-    alone-told m d = (d.0 ∙ (let p = lets-pass e f in rw (through, p)), d.1)
+    pub through-measured : (m : Result Lengths Refusal) → MeasuredOf c x m → ToldOf c x m
+    through-measured m t = (t.0 ∙ (let p = lets-pass e f in rw (through-stages c x, p)), t.1)
+
+-- where the range is known to pass, a column that is tested without the indices is tested with them
+pub tested-with : (c : Column) (x : IndexColumn) (first : Bool) → (first ≡ false → InRange c.table.rows x) → {t : IndexColumn} → t ≡ cond first x no_indices
+    → through_range c t ≡ through_range c x
+tested-with c x true known e = ap (through_range c) e
+tested-with c x false known e =
+    let r : InRange c.table.rows x = known refl in
+    let a : range_refusal c.table.rows no_indices ≡ accept = range-accepted c.table.rows no_indices (λ j h. absurd (not-suc-le-zero h)) in
+    let b : range_refusal c.table.rows x ≡ accept = range-accepts c.table.rows x r.range in
+    ap (through_range c) e ∙ rw (form-alone c, form-tested c x r.passed, a, b)
 
 -- ---- by the lengths that a description states
 

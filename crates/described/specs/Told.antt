@@ -1,12 +1,13 @@
 -- What the tests of one column tell.
 use Rattle.std.specs.Prelude.{◌≡◌, if◌then◌else◌, Result, IfOk}
+use Rattle.tables.specs.declared.answer.Answer.{Answer}
 use Rattle.tables.specs.declared.refusal.Refusal.{Refusal}
 use Rattle.tables.specs.declared.table.Lengths.{Lengths}
 use Rattle.tables.specs.declared.table.Description.{Description}
 use Rattle.tables.specs.Kinds.{kind_of, uses_of}
 use Rattle.tables.specs.Columns.{Column, IndexColumn}
 use Rattle.tables.specs.Answers.{first_of}
-use Rattle.tables.specs.Stages.{checked_numbers, ◌or_else◌, offsets_refusal}
+use Rattle.tables.specs.Stages.{checked_numbers, ◌or_else◌, form_refusal, offsets_refusal}
 use Rattle.gathers.specs.Taken.{taken}
 use Rattle.gathers.specs.Stored.{needed_lengths}
 use Rattle.gathers.specs.Gather.{through_lines}
@@ -19,6 +20,10 @@ stated_lengths d = record {
   offsets = if (uses_of (kind_of d.table.kind)).offset_width then d.offsets.len else 0;
   validity = d.validity.len;
 }
+
+-- 1 to 5
+abbrev pub through_range : Column → IndexColumn → Answer
+through_range c x = form_refusal c x or_else range_refusal c.table.rows x
 
 -- where nothing is refused: what the rows need
 abbrev pub PassedOf : Column → IndexColumn → Result Lengths Refusal → Type 0

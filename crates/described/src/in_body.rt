@@ -4,17 +4,17 @@ ghost use Rattle.std.specs.Prelude.{◌≡◌};
 ghost use Rattle.tables.specs.Columns.{index_column_of};
 ghost use Rattle.tables.specs.Bodies.{column_in};
 ghost use Rattle.tables.specs.Stages.{checked_numbers, sizes_refusal};
-ghost use Rattle.tables.specs.Refusals.{column_refusal};
 ghost use Rattle.gathers.specs.Taken.{taken};
 ghost use Rattle.gathers.specs.Stored.{output_at, store};
 ghost use Rattle.gathers.specs.Ready.{Ready, NoOverflow};
-ghost use Rattle.described.specs.Told.{stated_lengths, MeasuredOf, ToldOf};
+ghost use Rattle.described.specs.Told.{stated_lengths, through_range, MeasuredOf};
 ghost use Rattle.described.specs.Taken.{taken_of, HasRoomFor};
 
-use crate::column::{Taken, check_column, measure_column, take_column};
+use crate::column::{Taken, measure_column, take_column};
 use descriptions::body::{column_in, some_cut};
 use kinds::kind::uses_at;
 use offsets::check::check_offsets;
+use range::bounds::check_bounds;
 use sizes::check::check_sizes;
 use tables::column::IndexColumn;
 use tables::refusal::Refusal;
@@ -41,24 +41,14 @@ fn check_stated(d: Description, body: &[u8], indices: &IndexColumn<'_>) -> Resul
     check_sizes(d.table, cut, lengths, indices.indices, indices.lengths())
 }
 
-// Refusals 1 to 4 of a column by itself.
-pub fn check_alone(d: Description, body: &[u8]) -> Result<(), Refusal>
-    ensures { checked_numbers result ≡ column_refusal (column_in body.now d) }
-{
-    check_stated(d, body, &IndexColumn::none())?;
-    check_offsets(&column_in(body, d))
-}
-
-// Refusals 1 to 6, and where none is met how many bytes of each output the rows need.
-pub fn check_described(
-    d: Description,
-    body: &[u8],
-    indices: &IndexColumn<'_>,
-) -> Result<Lengths, Refusal>
-    ensures { ToldOf (column_in body.now d) (index_column_of indices.now) result }
+// Refusals 1 to 5.
+pub fn check_rows(d: Description, body: &[u8], indices: &IndexColumn<'_>) -> Result<(), Refusal>
+    ensures { checked_numbers result ≡ through_range (column_in body.now d) (index_column_of indices.now) }
 {
     check_stated(d, body, indices)?;
-    check_column(&column_in(body, d), indices)
+    let column = column_in(body, d);
+    check_offsets(&column)?;
+    check_bounds(column.table.rows, indices).checked
 }
 
 // Refusal 6, and where it is not met how many bytes of each output the rows need.
