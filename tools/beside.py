@@ -15,8 +15,7 @@ PROGRAMS = ("vectors", "trials")
 RENAMED = [
     ("descriptions buffer", "descriptions column_in"),
     ("descriptions offsets_buffer", "descriptions column_in"),
-    ("described RestToldOf", "described rows_refusal"),
-    ("described SizesPassed", "described rows_refusal"),
+    ("described check_described", "described check_rows"),
     ("entries answered_numbers", "tables From<Result<Gathered, Refusal>> for Answer::from"),
     ("entries answered_numbers", "tables answered_numbers"),
     ("kinds kind_of", "tables From<u64> for Kind::from"),
