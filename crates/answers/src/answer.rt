@@ -4,7 +4,7 @@ ghost use Rattle.bits.specs.Bytes.{overwrite};
 ghost use Rattle.tables.specs.Answers.{answered_numbers};
 ghost use Rattle.answers.specs.Exported.{answer_bytes};
 
-use bits::number::write_u64;
+use bits::number::write_number;
 use tables::answer::{Answer, Gathered};
 use tables::refusal::Refusal;
 
@@ -19,10 +19,10 @@ pub fn write_answer(answer: Answer, out: &mut [u8])
     requires { 32 ≤ length out.old }
     ensures { out.new ≡ overwrite (answer_bytes answer) out.old }
 {
-    write_u64(out, 0, answer.number);
-    write_u64(out, 8, answer.place);
-    write_u64(out, 16, answer.total);
-    write_u64(out, 24, answer.nulls);
+    write_number::<8>(out, 0, answer.number);
+    write_number::<8>(out, 8, answer.place);
+    write_number::<8>(out, 16, answer.total);
+    write_number::<8>(out, 24, answer.nulls);
 }
 
 // Writes those of what a gather answers, and returns the first, as C's functions do.

@@ -3,7 +3,7 @@ ghost use Rattle.std.specs.Prelude.{◌≡◌, ◌+◌, ◌*◌, ◌≤◌, ◌<
 ghost use Rattle.bits.specs.Numbers.{number_at};
 ghost use Rattle.tables.specs.Bodies.{extent, record_words, record_bytes, described, described_at};
 
-use bits::number::read_u64;
+use bits::number::read_number;
 use tables::table::{Description, Extent, Table};
 
 // 13 words of eight bytes.
@@ -21,7 +21,7 @@ impl Record<'_> {
         requires { j < record_words }
         ensures { result ≡ number_at 8 self.now.words.now j }
     {
-        read_u64(self.words, j * 8)
+        read_number::<8>(self.words, j * 8)
     }
 
     // The extent whose start is word j.

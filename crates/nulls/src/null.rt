@@ -9,7 +9,7 @@ ghost use Rattle.gathers.specs.Ready.{InRange};
 ghost use Rattle.nulls.specs.Nulls.{taken_validity, taken_nulls};
 
 use bitmaps::bit::{BooleanBuffer, validity_of};
-use bits::number::{low, low_bits, write_u64};
+use bits::number::{low, low_bits, write_number};
 use buffers::bit::count_set_bits;
 use tables::column::IndexColumn;
 
@@ -37,7 +37,7 @@ fn set_bits(n: usize, out: &mut [u8])
     let words = bytes / 8;
     for k in 0..words {
         let from = 8 * k;
-        write_u64(out, from, ones(n - 8 * from));
+        write_number::<8>(out, from, ones(n - 8 * from));
     }
     if bytes % 8 == 0 {
         return;

@@ -4,7 +4,7 @@ ghost use Rattle.std.specs.Prelude.{◌≡◌, ◌≤◌, ◌<◌, length};
 ghost use Rattle.bits.specs.Bytes.{overwrite};
 ghost use Rattle.rows.specs.Front.{padded, front_bytes};
 
-use bits::number::{low_bits, read_u64, write_u64};
+use bits::number::{low_bits, read_number, write_number};
 use copies::slice::{copy_narrow, copy_wide};
 
 // The first n bytes of src, fewer than 8, and zeros after them.
@@ -12,7 +12,7 @@ fn copy_masked(src: &[u8], n: usize, dst: &mut [u8])
     requires { (n < 8) × (8 ≤ length src.now) × (8 ≤ length dst.old) }
     ensures { dst.new ≡ overwrite (padded n src.now) dst.old }
 {
-    write_u64(dst, 0, low_bits(read_u64(src, 0), 8 * n));
+    write_number::<8>(dst, 0, low_bits(read_number::<8>(src, 0), 8 * n));
 }
 
 // The first n bytes of src into the front of dst. All of src may be read, and all of dst be written.

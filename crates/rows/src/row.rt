@@ -10,7 +10,7 @@ ghost use Rattle.bits.specs.Bits.{bytes_for};
 ghost use Rattle.rows.specs.Rows.{sources_at, row_at, row_bytes, written_row, RowThere, CopyReady, RowsCopied, rows_to, AreBytes};
 
 use crate::front::copy_front;
-use bits::number::{number_at, read_rest, read_u64};
+use bits::number::{number_at, read_number, read_rest};
 
 // What the rows are copied by: the data and its offsets, of OW bytes, an entry of `unit` bytes, the indices, the offsets of the output, and the validity that
 // is written for it. The rows that it shows are there.
@@ -111,7 +111,7 @@ fn word_at(valid: &[u8], k: usize, n: usize) -> u64
     ensures bytes { AreBytes valid.now }
 {
     if 8 <= n - k {
-        return read_u64(valid, k);
+        return read_number::<8>(valid, k);
     }
     read_rest(valid, k, n)
 }

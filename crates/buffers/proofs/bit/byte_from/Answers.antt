@@ -18,5 +18,5 @@ returns c =
     let a = c.args in
     let h : a.q + 2 ≤ length a.src.now = omega arith in
     c.lowest-2.ensures
-    ∙ ap (λ (y : ℕ). y / 2 ^ a.shift % 2 ^ a.left % 256) c.read_u16.ensures
+    ∙ ap (λ (y : ℕ). y / 2 ^ a.shift % 2 ^ a.left % 256) c.read_number.ensures
     ∙ byte-window 2 a.q a.shift a.left a.src.now c.type_inv.src h (λ j m k. omega (arith, c.requires))

@@ -10,13 +10,13 @@ pub loop-k-init : goal.loop-k-init
 loop-k-init c = record { counted = omega (arith, set_bits-le 0 c.args.buf.now) }
 
 pub overflow_add-t : goal.overflow_add-t
-overflow_add-t c = omega (arith, ones-le 64 c.read_u64.result c.read_u64.type_inv, set_bits-le (c.loop-k.k * 8) c.args.buf.now)
+overflow_add-t c = omega (arith, ones-le 64 c.read_number.result c.read_number.type_inv, set_bits-le (c.loop-k.k * 8) c.args.buf.now)
 
 pub loop-k-preserved : goal.loop-k-preserved
 loop-k-preserved c =
     let k = c.loop-k.k in
     let next : (k + 1) * 8 ≡ k * 8 + 8 = omega arith in
-    record { counted = rw next (omega (arith, set_bits-more 8 (k * 8) c.args.buf.now c.type_inv.buf (omega arith), ap ones c.read_u64.ensures)) }
+    record { counted = rw next (omega (arith, set_bits-more 8 (k * 8) c.args.buf.now c.type_inv.buf (omega arith), ap ones c.read_number.ensures)) }
 
 pub overflow_add-result : goal.overflow_add-result
 overflow_add-result c = omega (arith, ones-le 64 c.read_rest-rest.result c.read_rest-rest.type_inv, set_bits-le (c.loop-k.k * 8) c.args.buf.now)

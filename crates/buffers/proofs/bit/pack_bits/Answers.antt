@@ -11,7 +11,7 @@ loop-k-preserved c =
     record {
       packed =
           rw next
-          (packed-word a.src.now a.out.now a.bit_offset a.n (k * 8) c.loop-k.invariant.packed c.word_from.result (omega arith) c.word_from.ensures c.write_u64.ensures);
+          (packed-word a.src.now a.out.now a.bit_offset a.n (k * 8) c.loop-k.invariant.packed c.word_from.result (omega arith) c.word_from.ensures c.write_number.ensures);
     }
 
 pub loop-k-2-preserved : goal.loop-k-2-preserved

@@ -13,7 +13,7 @@ loop-k-preserved c =
     let a = c.args in
     let p : ℕ → Bool = λ i. nat_lt i a.n && true in
     let next : 8 * at.k + 8 ≡ 8 * (at.k + 1) = omega arith in
-    word_more p a.out.now (8 * at.k) at.invariant c.ones.result (ones-left a.n (8 * at.k) c.ones.result c.ones.ensures) c.write_u64.ensures
+    word_more p a.out.now (8 * at.k) at.invariant c.ones.result (ones-left a.n (8 * at.k) c.ones.result c.ones.ensures) c.write_number.ensures
     ∙ ap (λ (m : ℕ). overwrite (pack_bytes m p) a.out.now) next
 
 pub loop-k-2-preserved : goal.loop-k-2-preserved

@@ -5,4 +5,4 @@ use Rattle.rows.proofs.front.copy_masked.Goals as goal
 
 pub returns : goal.returns
 returns c =
-    masked c.args.n c.args.src.now c.args.dst.now c.type_inv.src (omega arith) (omega arith) c.read_u64.ensures c.low_bits.ensures c.write_u64.ensures
+    masked c.args.n c.args.src.now c.args.dst.now c.type_inv.src (omega arith) (omega arith) c.read_number.ensures c.low_bits.ensures c.write_number.ensures

@@ -4,4 +4,4 @@ use Rattle.bits.proofs.Numbers.{number_at-bytes}
 use Rattle.descriptions.proofs.record.Record.word.Goals as goal
 
 pub returns : goal.returns
-returns c = c.read_u64.ensures ∙ sym (number_at-bytes 8 _ _)
+returns c = c.read_number.ensures ∙ sym (number_at-bytes 8 _ _)
