@@ -1,4 +1,5 @@
-// The blocks that the numbers name, one after the other, where no validity is there: each number names one, and nothing has to be tested.
+// The blocks that the numbers name, one after the other, where no validity is there: each number names one, and nothing has to be
+// tested. The numbers stay apart, as in valid.rt.
 ghost use Rattle.std.specs.Prelude.{◌≡◌, []};
 ghost use Rattle.bits.specs.Bytes.{overwrite};
 ghost use Rattle.blocks.specs.Blocked.{Named, named_blocks};

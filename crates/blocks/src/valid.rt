@@ -1,5 +1,6 @@
 // The blocks that the numbers name, one after the other, where a validity is there: zeros for each row that is not valid. They are copied from zeros that
-// the caller lends. A byte of the validity is read once, for eight rows.
+// the caller lends. A byte of the validity is read once, for eight rows. The data, n and the zeros are no struct: it would lie in memory, n would be no literal
+// to `take_byte`, and no size would have a loop of its own (tried). Nor are the numbers one with their width and count: `Named` would relate it to the others.
 ghost use Rattle.std.specs.Prelude.{◌≡◌, false, ◌+◌, ◌*◌, ◌^◌, ◌≤◌, ◌<◌};
 ghost use Rattle.bits.specs.Sequences.{concat};
 ghost use Rattle.bits.specs.Bytes.{overwrite};
@@ -45,7 +46,6 @@ fn take_byte(
 }
 
 // Whole bytes, with eight as a literal, so that their rows are one after the other in the code, and then the rows that are left.
-// The data, n and the zeros are no struct: it would lie in memory, n would be no literal to `take_byte`, and no size would have a loop of its own (tried).
 #[tactic(auto, using(crate::proofs::Blocks::named_first, crate::proofs::Blocks::blocks_next))]
 pub fn take_valid(
     data: &[u8],

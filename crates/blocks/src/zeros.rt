@@ -2,7 +2,7 @@
 ghost use Rattle.std.specs.Prelude.{◌≡◌, ◌≤◌, replicate};
 ghost use Rattle.blocks.specs.declared.zeros.TheConstants.{ZEROS};
 
-// How many they are. They are made by a few stores on every core; more would be a call of `memset` on some.
+// How many they are: an array, for there is no heap. They are made by a few stores on every core; more would be a call of `memset` on some.
 pub const ZEROS: usize = 32;
 
 // So many zeros.

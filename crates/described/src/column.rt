@@ -66,7 +66,8 @@ fn data_written(layout: Layout, offset_width: u64, count: u64, out_offsets: &[u8
     }
 }
 
-// The outputs are lent one by one here and below: of a tail that is lent on in a struct it is not proved what comes back.
+// The outputs are lent one by one here and below: of a tail that is lent on in a struct it is not proved what comes back (tried by value, by `&mut`, and taken
+// apart and built again).
 pub fn take_column(
     column: &Column<'_>,
     indices: &IndexColumn<'_>,

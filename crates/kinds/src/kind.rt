@@ -51,7 +51,7 @@ pub fn uses_at(t: Table) -> Uses
     uses_of(Kind::from(t.kind))
 }
 
-// The layout of a kind. Only the row of a list of fixed size is a product.
+// The layout of a kind, which stands beside its table as in the definition. Only the row of a list of fixed size is a product.
 pub fn layout_of(kind: Kind, t: Table) -> Layout
     requires { RowFits kind t }
     ensures { result ≡ layout_of kind t.width t.size }

@@ -36,8 +36,8 @@ pub struct Shown<'a, const OW: usize> {
     ghost there: { ShownThere (shown_at OW offsets index_width index_data out_validity) count },
 }
 
-// The row of an output row, and 1; 0 and 0 where the output row is null: numbers that mask others, and no Option, which would be a branch. Where nulls
-// cannot be guessed, a wrong guess costs some 15 cycles (docs/PROVING.md), and the mask a multiplication.
+// The row of an output row, and 1; 0 and 0 where the output row is null: numbers that mask others, and no Option, which each function that reads them would
+// open into these two. Where nulls cannot be guessed, a wrong guess costs some 15 cycles (docs/PROVING.md), and the mask a multiplication.
 #[derive(Clone, Copy)]
 struct MaskedRow {
     row: usize,

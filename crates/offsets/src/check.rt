@@ -79,6 +79,7 @@ impl<const W: usize> OffsetBuffer<'_, W> {
         let mut before = 0;
         for i in 0..=self.rows {
             let offset = self.offset_at(i);
+            // one test of both: with `||` there are two ways out of the loop, and to prove
             if (offset < before) | (offset > most) {
                 return Some(i as u64);
             }

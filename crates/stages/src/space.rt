@@ -11,7 +11,7 @@ use kinds::kind::layout_at;
 use tables::refusal::{OutputBuffer, Refusal};
 use tables::table::{Layout, Lengths, Table};
 
-// (That the count is small is a clause: it is that of the indices, which are not looked at here.)
+// (The layout stands beside its table, as in `sizes`. That the count is small is a clause: it is that of the indices, which are not looked at here.)
 fn offset_length(layout: Layout, table: Table, count: u64) -> u64
     requires bounds { Bounds layout table }
     requires few { count ≤ max_rows }

@@ -65,6 +65,7 @@ pub fn take_values(
     let zeros = Zeros { bytes: &zeros };
     let width = table.width as usize;
     let size = table.size as usize;
+    // an arm for each case of an enum that the format closes: a table of functions would name each of them too
     match kind {
         Kind::Primitive => take_native(data, width, &picks, zeros, out_data),
         Kind::Boolean => {

@@ -44,6 +44,7 @@ fn index_column<'a>(width: u64, count: u64, data: &'a [u8], validity: &'a [u8]) 
     }
 }
 
+// A name for one chain, which three outputs are asked by.
 fn is_kept(out: &[u8]) -> bool {
     out.iter().all(|byte| *byte == FILL)
 }
@@ -79,7 +80,7 @@ fn gather(
     )
 }
 
-// Trial 10: one row of 65,536 bytes, `count` times index 0, where only the data output is too short. `kind` is the number in the table.
+// Trial 10: one row of 65,536 bytes, `count` times index 0, where only the data output is too short. `kind` is a number, as in `Table`.
 fn long_row(rt: &impl Print, what: &str, kind: u64, count: u64) -> io::Result<()> {
     let column = Column {
         table: Table {

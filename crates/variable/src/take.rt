@@ -1,4 +1,6 @@
-// The rows of a column of variable width, gathered. First all offsets, in a loop without a branch: a null row has no entries, so its offset repeats. Then
+// The rows of a column of variable width, gathered. `take_bytes` and `take_list` are one line each over `take_variable`, and have the Rust's names. `Shown` and
+// `Sources` have the numbers alone of the index column: its validity is in that of the output, and `lengths` and `rows` know of no tables.
+// First all offsets, in a loop without a branch: a null row has no entries, so its offset repeats. Then
 // the bytes of the valid rows, to where the offsets say. Wrong guesses of a branch cost more than the second loop. The columns are two parameters, as in Rust's
 // `take(values, indices)`. The outputs are parameters of each function, for what comes back in a struct of `&mut`s that is handed on whole is not proved.
 ghost use Rattle.std.specs.Prelude.{◌≡◌};
