@@ -13,6 +13,12 @@ import sys
 PROGRAMS = ("vectors", "trials")
 # What has another name now: crate and name in the old tree, and in the new one with the type that a method is of.
 RENAMED = [
+    ("bits read_u16", "bits read_number"),
+    ("bits read_u32", "bits read_number"),
+    ("bits read_u64", "bits read_number"),
+    ("bits write_u16", "bits write_number"),
+    ("bits write_u32", "bits write_number"),
+    ("bits write_u64", "bits write_number"),
     ("descriptions buffer", "descriptions column_in"),
     ("descriptions offsets_buffer", "descriptions column_in"),
     ("described check_described", "described check_rows"),
