@@ -1,4 +1,4 @@
-// Refusal 4: the offsets of a column of variable width. One pass, eight offsets a turn, finds whether some offset is below the one before. Where none
+// Refusal 4: the offsets of a column of variable width. One pass, sixteen offsets a turn, finds whether some offset is below the one before. Where none
 // is and the last is at most H, all are good: an offset below 0 is, read as unsigned, above every H. Only else is the place looked for.
 ghost use Rattle.std.specs.Prelude.{◌≡◌, true, suc, ◌+◌, ◌*◌, ◌/◌, ◌≤◌, length};
 ghost use Rattle.bits.specs.Sequences.{any, first};
@@ -33,15 +33,15 @@ impl<const W: usize> OffsetBuffer<'_, W> {
         number_at(self.bytes, W, i)
     }
 
-    // Some of the eight offsets after offset i is below the one before. No turn leaves early, as `windows(2)` does (0.17 ns an offset in place of 0.10 at width
+    // Some of the TURN offsets after offset i is below the one before. No turn leaves early, as `windows(2)` does (0.17 ns an offset in place of 0.10 at width
     // 4, docs/PROVING.md).
-    fn falls_in_eight(&self, i: usize) -> bool
-        requires { i + 8 ≤ self.now.rows }
-        ensures { result ≡ any 8 (λ k. falls (number_at W self.now.bytes.now) (i + k)) }
+    fn falls_in_turn<const TURN: usize>(&self, i: usize) -> bool
+        requires { i + TURN ≤ self.now.rows }
+        ensures { result ≡ any TURN (λ k. falls (number_at W self.now.bytes.now) (i + k)) }
     {
         let mut before = self.offset_at(i);
         let mut falls = false;
-        for k in 0..8 {
+        for k in 0..TURN {
             let offset = self.offset_at(i + k + 1);
             falls |= offset < before;
             before = offset;
@@ -49,17 +49,17 @@ impl<const W: usize> OffsetBuffer<'_, W> {
         falls
     }
 
-    // Some offset is below the one before: eight a turn, then single ones.
+    // Some offset is below the one before: sixteen a turn, then single ones.
     fn falls(&self) -> bool
         ensures { result ≡ any self.now.rows (falls (number_at W self.now.bytes.now)) }
     {
-        let turns = self.rows / 8;
+        let turns = self.rows / 16;
         for turn in 0..turns {
-            if self.falls_in_eight(turn * 8) {
+            if self.falls_in_turn::<16>(turn * 16) {
                 return true;
             }
         }
-        for i in turns * 8..self.rows {
+        for i in turns * 16..self.rows {
             if self.offset_at(i + 1) < self.offset_at(i) {
                 return true;
             }

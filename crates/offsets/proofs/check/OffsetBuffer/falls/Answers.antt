@@ -5,17 +5,17 @@ use Rattle.bits.specs.Numbers.{number_at}
 use Rattle.tables.proofs.Scans.{falls-found, falls-not, one-test}
 use Rattle.offsets.proofs.check.OffsetBuffer.falls.Goals as goal
 
-pub returns-then-falls_in_eight : goal.returns-then-falls_in_eight
-returns-then-falls_in_eight g c =
+pub returns-then-falls_in_turn : goal.returns-then-falls_in_turn
+returns-then-falls_in_turn g c =
     let b = c.args.self.now in
     let l = c.loop-turn in
-    sym (falls-found (number_at g.row.W b.bytes.now) (l.turn * 8) 8 l.invariant b.rows (omega arith) (sym c.falls_in_eight.ensures ∙ c.if-falls_in_eight.true))
+    sym (falls-found (number_at g.row.W b.bytes.now) (l.turn * 16) 16 l.invariant b.rows (omega arith) (sym c.falls_in_turn.ensures ∙ c.if-falls_in_turn.true))
 
 pub loop-turn-preserved : goal.loop-turn-preserved
 loop-turn-preserved g c =
     let l = c.loop-turn in
-    let e : (l.turn + 1) * 8 ≡ l.turn * 8 + 8 = omega arith in
-    rw e (falls-not (number_at g.row.W c.args.self.now.bytes.now) (l.turn * 8) 8 l.invariant (sym c.falls_in_eight.ensures ∙ c.if-falls_in_eight.false))
+    let e : (l.turn + 1) * 16 ≡ l.turn * 16 + 16 = omega arith in
+    rw e (falls-not (number_at g.row.W c.args.self.now.bytes.now) (l.turn * 16) 16 l.invariant (sym c.falls_in_turn.ensures ∙ c.if-falls_in_turn.false))
 
 pub returns-then-offset_at : goal.returns-then-offset_at
 returns-then-offset_at g c =

@@ -3,7 +3,7 @@ use Rattle.std.proofs.Common.{◌≡◌, ◌+◌}
 use Rattle.bits.specs.Sequences.{any}
 use Rattle.bits.specs.Numbers.{number_at}
 use Rattle.tables.specs.Bounds.{falls}
-use Rattle.offsets.proofs.check.OffsetBuffer.falls_in_eight.Given as goal
+use Rattle.offsets.proofs.check.OffsetBuffer.falls_in_turn.Given as goal
 
 abbrev pub invariant-loop-k : goal.invariant-loop-k
 invariant-loop-k g l = record {
