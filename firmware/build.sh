@@ -120,12 +120,13 @@ archive() { # CORE
     local dir=$out/$1 words target undefined name
     words="$(field "$1" 2) ${EXTRA:-}"
     rm -rf "$dir" && mkdir -p "$dir"
-    # what clang itself says of the target takes the place of what the module says of x86-64; the attributes of that processor go
+    # what clang itself says of the target takes the place of what the module says of x86-64; the attributes of that processor go, and from the functions that are
+    # not put in line (#1) too: nothing whose processor is another would be put into them
     # shellcheck disable=SC2086
     target=$(echo 'void f(void) {}' | "$kit/$bin/clang" --no-default-config $words -x c -S -emit-llvm -O0 - -o - | grep '^target ')
     for name in "${entries[@]}"; do
         awk -v target="$target" '/^target datalayout = / { print target; n++; next } /^target triple = / { n++; next }
-            /^attributes #0 = / { n += sub(/ "target-cpu"="x86-64-v2"/, ""); n += sub(/ "probe-stack"="inline-asm" "stack-probe-size"="3072"/, "") } { print } END { exit n != 4 }' \
+            /^attributes #[01] = / { n += sub(/ "target-cpu"="x86-64-v2"/, ""); n += sub(/ "probe-stack"="inline-asm" "stack-probe-size"="3072"/, "") } { print } END { exit n != 6 }' \
             "$out/$name.ll" >"$dir/$name.ll" || fail "the module names its target in another way than is known here"
         # shellcheck disable=SC2086
         compile "$dir/$name.ll" "$dir/$name.o" -fstack-usage $words
