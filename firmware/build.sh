@@ -84,7 +84,7 @@ unportable() { # MODULE
         grep -oE '[A-Za-z_][A-Za-z0-9_]*|[^][A-Za-z0-9_ #(),.:={}-]' | sort -u | grep -vxF "$(printf '%s\n' "${same[@]}")" || true
     # of constants only one without bytes
     grep -E '^@' "$1" | grep -vE '^@static\.[0-9]+ = private unnamed_addr constant \[0 x i8\] zeroinitializer, align 1$' || true
-    grep -E '^declare ' "$1" | grep -vE '@llvm\.(memmove\.p0\.p0\.i64|memset\.p0\.i64|ctpop\.i64|cttz\.i64|trap)\(' || true
+    grep -E '^declare ' "$1" | grep -vE '@llvm\.(memmove\.p0\.p0\.i64|memset\.p0\.i64|ctpop\.i(32|64)|cttz\.i(32|64)|trap)\(' || true
     grep -E '^define ' "$1" | grep -v '^define internal ' | sed 's/ %[a-z0-9]*//g' | grep -vE '^define noundef i64 @[a-z_]+\(((i64|ptr) noundef(, )?)*\) #0 \{$' || true
     # a cycle of calls, which would leave the stack without a bound
     awk '/^define /{ match($0, /@("[^"]*"|[A-Za-z0-9_.]+)/); f = substr($0, RSTART + 1, RLENGTH - 1); gsub(/[" ]/, "", f) }
@@ -129,7 +129,7 @@ archive() { # CORE
             /^attributes #[01] = / { n += sub(/ "target-cpu"="x86-64-v2"/, ""); n += sub(/ "probe-stack"="inline-asm" "stack-probe-size"="3072"/, "") } { print } END { exit n != 6 }' \
             "$out/$name.ll" >"$dir/$name.ll" || fail "the module names its target in another way than is known here"
         # shellcheck disable=SC2086
-        compile "$dir/$name.ll" "$dir/$name.o" -fstack-usage $words
+        compile "$dir/$name.ll" "$dir/$name.o" -fstack-usage -mllvm -max-store-memset=64 $words
     done
     (cd "$dir" && "$kit/$bin/llvm-ar" rcsD --format=gnu libhoglidra.a "${entries[@]/%/.o}")
     measure "$dir"

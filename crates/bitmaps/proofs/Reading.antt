@@ -2,69 +2,46 @@
 use mathlib.Core.Path.{◌≡◌, refl, sym, ap, ◌∙◌}
 use mathlib.Core.Bool.{Bool, true, false, not, ◌&&◌}
 use mathlib.Core.List.{List}
-use Prim.Native.Nat.{ℕ, ◌+◌, ◌*◌, ◌/◌, ◌%◌, ◌^◌, ◌≤◌, ◌<◌}
-use native.Mathlib.Nat.{mul-zero, mul-one, mul-le-mul_right}
+use Prim.Native.Nat.{ℕ, ◌+◌, ◌-◌, ◌*◌, ◌^◌, ◌≤◌, ◌<◌}
+use native.Mathlib.Nat.{add-zero, mul-one, mul-zero, mul-le-mul_right}
 use native.Mathlib.Omega.{arith}
-use lib.Bits.{bit_and, and_mask, and_le_r}
-use lib.Dec.{eqb, ltb}
-use lib.ListN.{length}
-use lib.Pow.{shl_exact}
-use borrow.Author.Tests.{lt-ltb, ltb-true, ltb-false, eqb-true, eqb-false}
-use Rattle.bits.specs.Bytes.{overwrite}
-use Rattle.bits.specs.Numbers.{number_at}
-use Rattle.bits.specs.Bits.{bit_value, bit_at, bytes_for, byte_of, pack, is_absent, valid_at}
-use Rattle.bits.proofs.Tests.{or-false}
+use lib.Bits.{bit_and}
+use lib.Count.{ones, ones-le, count_trailing_zeros}
+use lib.Dec.{ltb}
+use lib.ListN.{length, drop, length-drop}
+use lib.Seq.{take_all}
+use borrow.Author.Tests.{lt-ltb, le-ltb, ltb-true, ltb-false, eqb-true, eqb-false}
+use Rattle.bits.specs.Bytes.{part, overwrite}
+use Rattle.bits.specs.Routines.{overwrite_at}
+use Rattle.bits.specs.Numbers.{number_at, is_number_width, to_little_endian}
+use Rattle.bits.specs.Bits.{bit_value, bit_of, bit_at, bytes_for, pack_bytes, is_absent, valid_at}
+use Rattle.bits.proofs.Tests.{or-false, and_right, and-true, and-false-right}
 use Rattle.tables.specs.Columns.{IndexColumn, index_valid, index}
 use Rattle.tables.specs.Answers.{passes}
 use Rattle.tables.specs.Refusals.{max_bytes, max_bit, index_refusal}
 use Rattle.gathers.specs.Buffers.{taken_bit}
 use Rattle.gathers.specs.Ready.{InRange}
-use Rattle.bitmaps.specs.Reach.{HoldsBits, taken_bits, MaskThere, Reached, bit_in, byte_bit, Reaches}
-use Rattle.bits.proofs.Bits.{bit_value-lt, bit_test, bit-value, byte_of-bit, byte_of-cong, pack-cong, valid_at-absent, valid_at-present}
-use Rattle.bits.proofs.Words.{byte-and}
-use Rattle.tables.proofs.Facts.{index-formed}
-use Rattle.tables.proofs.There.{index_number, index-valid}
-use Rattle.gathers.proofs.Buffers.{valid-below, bit-named, bit-null}
+use Rattle.bitmaps.specs.Reach.{HoldsBits, MaskThere, Reached, Reaches}
+use Rattle.bits.proofs.Bits.{pack_bytes-cong, valid_at-absent, valid_at-present}
+use Rattle.bits.proofs.Numbers.{number_at-from}
+use Rattle.bits.proofs.Words.{PutIn, lowest_bit, bit_of-and, bit_of-inside, to_little_endian-bits}
+use Rattle.bits.proofs.Packing.{bytes_more}
+use Rattle.tables.proofs.Facts.{IndexFormed, index-formed}
+use Rattle.tables.proofs.There.{index_number, index-valid, index-there}
+use Rattle.gathers.proofs.Buffers.{valid-below, bit-named}
 
--- ---- a bit
+-- ---- the validity of n rows as a word
 
--- bit t of a byte, by a shift and a mask: 0 or 1
-module _ (y t : ℕ) where
-  pub mask-le : bit_and (y / 2 ^ t) 1 ≤ 1
-  mask-le = and_le_r (y / 2 ^ t) 1
+module _ (v : List ℕ) (b p n y : ℕ) where
+  -- none is there
+  pub absent_word : is_absent v ≡ true → ((t : ℕ) → bit_of y t ≡ ltb t n) → (t : ℕ) → bit_of y t ≡ (ltb t n && valid_at v b (p + t))
+  absent_word none e t = e t ∙ rw (valid_at-absent v b (p + t) (eqb-true (length v) 0 none)) (sym (and_right (ltb t n)))
 
-  mask-bit : bit_and (y / 2 ^ t) 1 ≡ bit_value (bit_in y t)
-  mask-bit = and_mask (y / 2 ^ t) 1 ∙ sym (bit-value (y / 2 ^ t))
-
--- v masks number m and the bit that is read
-module _ (b : ℕ) (s : List ℕ) (z : Bool) (m : ℕ) {v : ℕ} (d : v ≡ bit_value z) where
-  masked-bit : bit_value (bit_at s (b + m * v)) * v ≡ bit_value (z && bit_at s (b + m))
-  masked-bit = go z d
-    where
-      go : (t : Bool) → v ≡ bit_value t → bit_value (bit_at s (b + m * v)) * v ≡ bit_value (t && bit_at s (b + m))
-      go true e = rw (e, mul-one m) (mul-one (bit_value (bit_at s (b + m))))
-      go false e = rw e (mul-zero _)
-
-  -- in place t of its byte
-  bit_moved : (t : ℕ) → t < 8 → {r : ℕ} → r ≡ bit_value (bit_at s (b + m * v)) * v → (r * 2 ^ t) % 2 ^ 8 ≡ bit_value (z && bit_at s (b + m)) * 2 ^ t
-  bit_moved t h o =
-      let few : 1 + t ≤ 8 = omega arith in
-      rw (o ∙ masked-bit) (shl_exact 1 t 8 (bit_value-lt (z && bit_at s (b + m))) few)
-
-pub bit-taken : {b : ℕ} {x : IndexColumn} {s : List ℕ} {valid p n : ℕ} → Reaches b x s valid p n → (t : ℕ) → t < n → {m : ℕ}
-    → m ≡ number_at x.indices.width x.«data» (p + t) → {y : ℕ} → y ≡ bit_value (bit_at s (b + m * bit_and (valid / 2 ^ t) 1)) * bit_and (valid / 2 ^ t) 1
-    → (y * 2 ^ t) % 2 ^ 8 ≡ bit_value (byte_bit b x s valid p t) * 2 ^ t
-bit-taken {b} {x} {s} {valid} r t h {m} e o = rw (← e) (bit_moved b s (bit_in valid t) m (mask-bit valid t) t (omega (arith, r.few)) o)
-
--- ---- the validity of the indices of a byte
-
-module _ (v : List ℕ) (b p n : ℕ) where
-  pub valid_read : is_absent v ≡ false → n ≤ 8 → {r : ℕ} → r ≡ byte_of (λ t. ltb t n && bit_at v (b + p + t)) → (t : ℕ) → t < n → bit_in r t ≡ valid_at v b (p + t)
-  valid_read some few e t h =
-      let g : ℕ → Bool = λ i. ltb i n && bit_at v (b + p + i) in
+  -- or it is read
+  pub present_word : is_absent v ≡ false → ((t : ℕ) → bit_of y t ≡ (ltb t n && bit_at v (b + p + t))) → (t : ℕ) → bit_of y t ≡ (ltb t n && valid_at v b (p + t))
+  present_word some e t =
       let at : b + p + t ≡ b + (p + t) = omega arith in
-      let bit : g t ≡ valid_at v b (p + t) = rw (lt-ltb t n h, at) (sym (valid_at-present v b (p + t) (eqb-false (length v) 0 some))) in
-      ap (λ (y : ℕ). eqb (y / 2 ^ t % 2) 1) e ∙ ap (λ (y : ℕ). eqb y 1) (byte_of-bit g t (omega arith)) ∙ bit_test (g t) ∙ bit
+      e t ∙ rw (at, valid_at-present v b (p + t) (eqb-false (length v) 0 some))
 
 -- a source without bytes that has so many rows has none
 pub no-bits : {b rows : ℕ} (s : List ℕ) → HoldsBits b rows s → is_absent s ≡ true → rows ≡ 0
@@ -88,85 +65,133 @@ mask-held x p there e = record { small = omega (arith, (index-formed x p).count)
 -- ---- an index column in range, and a source that has its rows
 
 module _ (s : List ℕ) (b rows : ℕ) (x : IndexColumn) (i : InRange rows x) where
-  -- where there is an index there is a row, save where a validity says that no index is valid
-  rows-there : (rows ≡ 0 → is_absent x.validity ≡ true) → 0 < x.indices.count → 0 < rows
-  rows-there none h = go (eqb rows 0) refl
+  pub reached : (is_absent s ≡ false → HoldsBits b rows s) → (is_absent s ≡ true → rows ≡ 0) → Reached b s x
+  reached held some = record { passed = i.passed; inside = λ j l d. go (is_absent s) refl (valid-below rows x i j l d) }
     where
-      go : (t : Bool) → eqb rows 0 ≡ t → 0 < rows
-      go false e = let n : rows ≡ 0 → ⊥ = eqb-false rows 0 e in omega (arith, n)
-      go true e =
-          let absent : length x.validity ≡ 0 = eqb-true (length x.validity) 0 (none (eqb-true rows 0 e)) in
-          let valid : index_valid x 0 ≡ true = index-valid x 0 ∙ valid_at-absent x.validity x.indices.validity_bit 0 absent in
-          omega (arith, valid-below rows x i 0 h valid)
-
-  pub reached : (is_absent s ≡ false → HoldsBits b rows s) → (is_absent s ≡ true → rows ≡ 0) → (rows ≡ 0 → is_absent x.validity ≡ true) → Reached b s x
-  reached held some none = go (is_absent s) refl
-    where
-      go : (t : Bool) → is_absent s ≡ t → Reached b s x
-      go false e = let h = held e in record {
-        passed = i.passed;
-        some = λ l. omega (arith, h.there, rows-there none l);
-        inside = λ j l d. (omega (arith, h.there, valid-below rows x i j l d), omega (arith, h.small, valid-below rows x i j l d));
-      }
-      go true e = let no = some e in record {
-        passed = i.passed;
-        some = λ l. absurd (omega (arith, no, rows-there none l));
-        inside = λ j l d. absurd (omega (arith, no, valid-below rows x i j l d));
-      }
-
-  -- of no rows none is valid, and the output is the validity of the indices
-  pub no_rows : (m d : List ℕ) {y : List ℕ} → rows ≡ 0 → is_absent x.validity ≡ false
-      → y ≡ overwrite (pack x.indices.count (λ j. bit_at x.validity (x.indices.validity_bit + j))) d → y ≡ overwrite (taken_bits s b x m) d
-  no_rows m d e n o =
-      let some = eqb-false (length x.validity) 0 n in
-      o
-      ∙ ap (λ (z : List ℕ). overwrite z d)
-      (pack-cong x.indices.count
-      (λ j h. sym (index-valid x j ∙ valid_at-present x.validity x.indices.validity_bit j some) ∙ none j h ∙ sym (ap (λ (t : Bool). t && valid_at m 0 j) (bit-null s b x j (none j h)))))
-    where
-      none : (j : ℕ) → j < x.indices.count → index_valid x j ≡ false
-      none j h = go (index_valid x j) refl
-        where
-          go : (t : Bool) → index_valid x j ≡ t → t ≡ false
-          go true d = absurd (omega (arith, valid-below rows x i j h d))
-          go false d = refl
+      go : {r : ℕ} (t : Bool) → is_absent s ≡ t → r < rows → (b + r < 8 * length s) × (b + r < 2 ^ 60)
+      go false e l = (omega (arith, (held e).there), omega (arith, (held e).small))
+      go true e l = absurd (omega (arith, some e))
 
 -- ---- the n indices from index p on
 
-module _ (s : List ℕ) (b : ℕ) (x : IndexColumn) (r : Reached b s x) (p n : ℕ) where
-  -- by the byte of it
-  module _ (valid : ℕ) (v : (t : ℕ) → t < n → bit_in valid t ≡ valid_at x.validity x.indices.validity_bit (p + t)) where
-    pub byte-reached : p + n ≤ x.indices.count → (0 < n) × (n ≤ 8) → Reaches b x s valid p n
-    byte-reached h few =
-        let f = index-formed x r.passed in
-        let bytes : (p + n) * x.indices.width ≤ x.indices.count * x.indices.width = mul-le-mul_right x.indices.width h in
-        record {
-          width = f.width;
-          numbered = omega (arith, f.data_fit);
-          few = (few.0, few.1, omega (arith, f.count));
-          some = r.some (omega arith);
-          inside = λ t l e. rw (← index_number x (p + t)) (r.inside (p + t) (omega arith) (index-valid x (p + t) ∙ sym (v t l) ∙ e));
-        }
+module _ {s : List ℕ} {b : ℕ} {x : IndexColumn} (r : Reached b s x) {w : ℕ} (e : x.indices.width ≡ w) where
+  -- the first number starts in the data
+  pub starts : (p : ℕ) → p ≤ x.indices.count → (p * w ≤ length x.«data») × (p * w < 2 ^ 64)
+  starts p h =
+      let f : IndexFormed x = index-formed x r.passed in
+      let l : p * w ≤ x.indices.count * w = mul-le-mul_right w h in
+      let fit : x.indices.count * w ≤ length x.«data» = rw (← e) f.data_fit in
+      (omega arith, omega (arith, f.«data»))
 
-    pub byte-taken : {y : ℕ} → y ≡ byte_of (λ t. ltb t n && byte_bit b x s valid p t) → y ≡ byte_of (λ t. ltb t n && taken_bit s b x (p + t))
-    byte-taken e = e ∙ byte_of-cong (λ t l. go t (ltb t n) refl)
-      where
-        bit : (t : ℕ) (z : Bool) → index_valid x (p + t) ≡ z → (z && bit_at s (b + index x (p + t))) ≡ taken_bit s b x (p + t)
-        bit t true d = sym (bit-named s b x (p + t) d)
-        bit t false d = sym (bit-null s b x (p + t) d)
+  module _ (p n : ℕ) (h : p + n ≤ x.indices.count) where
+    abbrev numbers : List ℕ
+    numbers = part (p * w) (length x.«data» - p * w) x.«data»
 
-        go : (t : ℕ) (z : Bool) → ltb t n ≡ z → (z && byte_bit b x s valid p t) ≡ (z && taken_bit s b x (p + t))
-        go t true d = rw (v t (ltb-true t n d), ← index_number x (p + t)) (bit t (valid_at x.validity x.indices.validity_bit (p + t)) (index-valid x (p + t)))
-        go t false d = refl
+    numbers-from : numbers ≡ drop (p * w) x.«data»
+    numbers-from = take_all (length x.«data» - p * w) (drop (p * w) x.«data») (omega (arith, length-drop (p * w) x.«data»))
 
-    -- and masked by the byte of a mask
-    pub byte-kept : (m : List ℕ) {y : ℕ} → y ≡ byte_of (λ t. ltb t n && byte_bit b x s valid p t) → (kept : ℕ)
-        → ((t : ℕ) → t < n → bit_in kept t ≡ valid_at m 0 (p + t)) → bit_and y kept ≡ byte_of (λ t. ltb t n && (taken_bit s b x (p + t) && valid_at m 0 (p + t)))
-    byte-kept m e kept k =
-        ap (λ (z : ℕ). bit_and z kept) (byte-taken e)
-        ∙ byte-and (λ t. ltb t n && taken_bit s b x (p + t)) (bit_in kept) kept (λ t l. refl)
-        ∙ byte_of-cong (λ t l. go t (ltb t n) refl)
-      where
-        go : (t : ℕ) (z : Bool) → ltb t n ≡ z → ((z && taken_bit s b x (p + t)) && bit_in kept t) ≡ (z && (taken_bit s b x (p + t) && valid_at m 0 (p + t)))
-        go t true d = rw (k t (ltb-true t n d))
-        go t false d = refl
+    named : (t : ℕ) → number_at w numbers t ≡ index x (p + t)
+    named t = rw numbers-from (number_at-from w x.«data» p t ∙ rw (← e) (sym (index_number x (p + t))))
+
+    number-there : (t : ℕ) → t < n → (is_number_width w ≡ true) × (t * w + w ≤ length numbers)
+    number-there t l =
+        let f = index-there x (index-formed x r.passed) (p + t) (omega arith) in
+        (rw (← e) f.0, rw numbers-from (omega (arith, rw e at f.1, length-drop (p * w) x.«data»)))
+
+    valid-reached : (t : ℕ) → t < n → index_valid x (p + t) ≡ true → Reaches 1 b w numbers s t
+    valid-reached t l v = record {
+      width = (number-there t l).0;
+      numbered = (number-there t l).1;
+      bit = omega arith;
+      inside = rw (mul-one, named t) (r.inside (p + t) (omega arith) v);
+    }
+
+    -- by the words of their validity and of a mask
+    module _ (m : List ℕ) (valid kept : ℕ) (v : (t : ℕ) → bit_of valid t ≡ (ltb t n && valid_at x.validity x.indices.validity_bit (p + t)))
+        (k : (t : ℕ) → bit_of kept t ≡ (ltb t n && valid_at m 0 (p + t))) where
+      valid-bit : (t : ℕ) → bit_of valid t ≡ (ltb t n && index_valid x (p + t))
+      valid-bit t = v t ∙ rw (index-valid x (p + t))
+
+      -- where all are valid, each is read
+      module _ (all : (t : ℕ) → bit_of valid t ≡ ltb t n) where
+        all-valid : (t : ℕ) → t < n → index_valid x (p + t) ≡ true
+        all-valid t l = (and-true (ltb t n) (index_valid x (p + t)) (sym (valid-bit t) ∙ all t ∙ lt-ltb t n l)).1
+
+        pub all-reached : (t : ℕ) → t < n → Reaches 1 b w numbers s t
+        all-reached t l = valid-reached t l (all-valid t l)
+
+        pub all-taken : (y : ℕ) → ((t : ℕ) → bit_of y t ≡ (ltb t n && bit_at s (b + number_at w numbers t)))
+            → (t : ℕ) → bit_of (bit_and y kept) t ≡ (ltb t n && (taken_bit s b x (p + t) && valid_at m 0 (p + t)))
+        all-taken y o t = bit_of-and y kept t ∙ rw (o t, k t, named t) (go (ltb t n) refl)
+          where
+            go : (z : Bool) → ltb t n ≡ z → ((z && bit_at s (b + index x (p + t))) && (z && valid_at m 0 (p + t))) ≡ (z && (taken_bit s b x (p + t) && valid_at m 0 (p + t)))
+            go true d = rw (bit-named s b x (p + t) (all-valid t (ltb-true t n d)))
+            go false d = refl
+
+      -- else those that are valid and kept
+      pub picked-reached : (t : ℕ) → bit_of (bit_and valid kept) t ≡ true → Reaches 1 b w numbers s t
+      picked-reached t d =
+          let q = and-true (ltb t n) (index_valid x (p + t)) (sym (valid-bit t) ∙ (and-true (bit_of valid t) (bit_of kept t) (sym (bit_of-and valid kept t) ∙ d)).0) in
+          valid-reached t (ltb-true t n q.0) q.1
+
+      pub picked-taken : (y : ℕ) → ((t : ℕ) → bit_of y t ≡ (bit_of (bit_and valid kept) t && bit_at s (b + number_at w numbers t)))
+          → (t : ℕ) → bit_of y t ≡ (ltb t n && (taken_bit s b x (p + t) && valid_at m 0 (p + t)))
+      unfolding taken_bit
+      picked-taken y o t =
+          o t
+          ∙ rw (bit_of-and valid kept t, valid-bit t, k t, named t) (go (ltb t n) (index_valid x (p + t)) (valid_at m 0 (p + t)) (bit_at s (b + index x (p + t))))
+        where
+          go : (z a c d : Bool) → (((z && a) && (z && c)) && d) ≡ (z && ((a && d) && c))
+          go false a c d = refl
+          go true false c d = refl
+          go true true true d = sym (and_right d)
+          go true true false d = sym (and-false-right d refl)
+
+      -- of 32 where one is picked the first row is there too, which is read for the others
+      pub masked-reached : n ≡ 32 → bit_and valid kept < 2 ^ 32 → 24 ≤ ones (bit_and valid kept) → (t : ℕ) → t < 32
+          → Reaches (bit_value (bit_of (bit_and valid kept) t)) b w numbers s t
+      masked-reached long small many t l = go (bit_of picked t) refl
+        where
+          picked : ℕ
+          picked = bit_and valid kept
+
+          some : picked ≡ 0 → ⊥
+          some z = omega (arith, many, ap ones z, ones-le 0 0 (omega arith))
+
+          first : (b < 8 * length s) × (b < 2 ^ 60)
+          first = let i = rw mul-one at (picked-reached (count_trailing_zeros 32 picked) (lowest_bit 32 picked small some).set).inside in (omega (arith, i.0), omega (arith, i.1))
+
+          go : (z : Bool) → bit_of picked t ≡ z → Reaches (bit_value z) b w numbers s t
+          go true d = picked-reached t d
+          go false d = let f = number-there t (omega (arith, long)) in record { width = f.0; numbered = f.1; bit = omega arith; inside = rw (mul-zero, add-zero b) first }
+
+-- ---- the words of the output: the first n bits of f
+
+module _ (f : ℕ → Bool) (count : ℕ) (d : List ℕ) (k n r : ℕ) (h : 32 * k + n ≤ count) (w : (t : ℕ) → bit_of r t ≡ (ltb t n && f (32 * k + t))) where
+  abbrev bits : ℕ → Bool
+  bits p = ltb p count && f p
+
+  -- m bytes more, which have no other bits of f
+  pub words-more : (m : ℕ) → ((t : ℕ) → t < 8 * m → n ≤ t → count ≤ 32 * k + t) → {out y : List ℕ} → out ≡ overwrite (pack_bytes (4 * k) bits) d
+      → y ≡ overwrite_at (4 * k) (to_little_endian m r) out → y ≡ overwrite (pack_bytes (4 * k + m) bits) d
+  words-more m last i o =
+      bytes_more bits d (4 * k) i m r (to_little_endian-bits m r ∙ pack_bytes-cong m (λ t l. w t ∙ go t l (ltb t n) refl)) o
+    where
+      go : (t : ℕ) → t < 8 * m → (b : Bool) → ltb t n ≡ b → (b && f (32 * k + t)) ≡ bits (8 * (4 * k) + t)
+      go t l true c =
+          let at : 8 * (4 * k) + t ≡ 32 * k + t = omega arith in
+          rw (at, lt-ltb (32 * k + t) count (omega (arith, ltb-true t n c)))
+      go t l false c = rw (le-ltb (8 * (4 * k) + t) count (omega (arith, last t l (ltb-false t n c))))
+
+-- ---- 32 bits put in, each by a number that its bit masks
+
+pub masked-bits : (s : List ℕ) (b : ℕ) (numbers : ℕ → ℕ) (picked word : ℕ) → picked < 2 ^ 32 → PutIn (λ t. bit_at s (b + numbers t * bit_value (bit_of picked t))) 32 word
+    → (t : ℕ) → bit_of (bit_and word picked) t ≡ (bit_of picked t && bit_at s (b + numbers t))
+masked-bits s b numbers picked word small p t = bit_of-and word picked t ∙ go (bit_of picked t) refl
+  where
+    go : (z : Bool) → bit_of picked t ≡ z → (bit_of word t && z) ≡ (z && bit_at s (b + numbers t))
+    go true d =
+        let at : 32 - 32 + t ≡ t = omega arith in
+        let bit = p t (bit_of-inside picked 32 t small d) in
+        and_right (bit_of word t) ∙ rw (at, d, mul-one) at bit
+    go false d = and-false-right (bit_of word t) refl

@@ -1,10 +1,10 @@
 -- The taken rows of a column of variable width (kinds 3 and 4), by its buffers: their lengths, their bytes, the running total, and what refusal 6 says of it.
 -- Assumes nothing.
-use mathlib.Core.Path.{◌≡◌, refl, sym, ap, ◌∙◌, subst}
+use mathlib.Core.Path.{◌≡◌, refl, sym, ap, ◌∙◌}
 use mathlib.Core.Bool.{Bool, true, false, cond}
 use mathlib.Core.List.{[]}
-use Prim.Native.Nat.{ℕ, suc, ◌-◌, ◌*◌, ◌^◌, ◌≤◌, ◌<◌}
-use native.Mathlib.Nat.{lt_of_le_of_lt, le_refl, le_trans, mul-le-mul_right, div-mul-le_self, zero-mul, mul-le-mul_left}
+use Prim.Native.Nat.{ℕ, suc, ◌-◌, ◌*◌, ◌≤◌, ◌<◌}
+use native.Mathlib.Nat.{le_refl, le_trans, mul-le-mul_right, div-mul-le_self, zero-mul, mul-le-mul_left}
 use native.Mathlib.Omega.{arith}
 use lib.Dec.{ltb}
 use lib.ListN.{length}
@@ -13,10 +13,9 @@ use Rattle.bits.specs.Sequences.{concat, sum, first}
 use Rattle.bits.specs.Bytes.{part}
 use Rattle.bits.specs.Numbers.{to_little_endian}
 use Rattle.bits.specs.Bits.{valid_at}
-use Rattle.tables.specs.declared.table.Layout.{Layout}
 use Rattle.tables.specs.declared.table.Layout.TheVariants.{VariableWidth}
 use Rattle.tables.specs.Columns.{Column, IndexColumn, kind_at, layout_at, offset_at, index_valid, index}
-use Rattle.tables.specs.Answers.{refuse, passes}
+use Rattle.tables.specs.Answers.{refuse}
 use Rattle.tables.specs.Refusals.{max_rows, max_bytes}
 use Rattle.tables.specs.Rows.{Rows, rows_of}
 use Rattle.gathers.specs.Taken.{picked_valid, taken}
@@ -26,12 +25,10 @@ use Rattle.gathers.specs.Stages.{overflow_refusal, measured}
 use Rattle.gathers.specs.Ready.{Ready}
 use Rattle.gathers.specs.Buffers.{taken_bit_valid, taken_entries, taken_bytes}
 use Rattle.bits.proofs.Tests.{and-true}
-use Rattle.bits.proofs.Sequences.{sum-const, sum-le, sum_mono, sum-mul}
+use Rattle.bits.proofs.Sequences.{sum-const, sum-le, sum-mul}
 use Rattle.tables.proofs.Facts.{formed, index-formed}
 use Rattle.tables.proofs.Offsets.{VariableFacts, variable-facts, below}
 use Rattle.tables.proofs.Views.{rows_of-by, variable-kind-at}
-use Rattle.gathers.proofs.Stages.{no_overflow}
-use Rattle.gathers.proofs.ReadBack.{total-fits}
 use Rattle.gathers.proofs.Buffers.{valid-below}
 
 module _ (c : Column) (x : IndexColumn) where
@@ -121,18 +118,6 @@ module _ (c : Column) (x : IndexColumn) where
         let m : j * max_bytes ≤ max_rows * max_bytes = mul-le-mul_right {n = max_rows} max_bytes (omega (arith, (index-formed x r.indices.passed).count)) in
         let b : sum j E * u ≤ max_rows * max_bytes = omega (arith, sum-const j max_bytes, sum-mul j E u) in
         (omega (arith, mul-le-mul_left (sum j E) ready-facts.unit), b)
-
-    -- past refusal 6 each running total is an offset of its width
-    pub total-offset : passes (overflow_refusal v) ≡ true → (j : ℕ) → j ≤ x.indices.count → sum j (taken_entries c x) < 256 ^ c.table.offset_width
-    total-offset p j h =
-        let n : ℕ = x.indices.count in
-        let w : (rows_of c).offset_width ≡ c.table.offset_width = rw (rows_of-by c, e) in
-        let l : (rows_of c).layout ≡ VariableWidth u = ap (λ (s : Rows). s.layout) (rows_of-by c) ∙ e in
-        let o : ltb (overflow_at (VariableWidth u) v) n ≡ false = subst (λ (m : Layout). ltb (overflow_at m v) n ≡ false) l (no_overflow v p) in
-        let few : (i : ℕ) → i < n → v.entries i ≤ max_bytes =
-        λ i b. rw (entries-by-buffer u e i) (omega (arith, taken-small i b, mul-le-mul_left (taken_entries c x i) ready-facts.unit)) in
-        let t : start_of v n < 256 ^ (rows_of c).offset_width = total-fits v u few (index-formed x r.indices.passed).count (rw w ready-facts.width) o in
-        lt_of_le_of_lt (sum_mono n (taken_entries c x) h) (subst (λ (k : ℕ). k < 256 ^ c.table.offset_width) (start-by-buffer u e n) (subst (λ (k : ℕ). start_of v n < 256 ^ k) w t))
 
 -- ---- refusal 6
 

@@ -1,2 +1,4 @@
 pub mod Masking
+pub mod Picked
 pub mod Running
+pub mod Turns

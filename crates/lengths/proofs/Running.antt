@@ -1,24 +1,17 @@
 -- The turns of the loops over the entries E of the output rows. Assumes nothing.
-use mathlib.Core.Path.{◌≡◌, refl, sym, ◌∙◌}
+use mathlib.Core.Path.{◌≡◌, refl, sym}
 use mathlib.Core.Bool.{Bool, true, false, cond}
-use mathlib.Core.List.{List}
-use Prim.Native.Nat.{ℕ, suc, ◌+◌, ◌*◌, ◌^◌, ◌≤◌, ◌<◌}
+use Prim.Native.Nat.{ℕ, suc, ◌+◌, ◌^◌, ◌≤◌, ◌<◌}
 use native.Mathlib.Nat.{le_refl}
 use native.Mathlib.Numerals.{add-one}
 use native.Mathlib.Omega.{arith}
 use lib.Dec.{ltb}
-use lib.ListN.{length}
 use Rattle.std.specs.Prelude.{Result, Ok, Err}
 use borrow.Author.Tests.{lt-ltb, le-ltb, ltb-true, ltb-false}
 use Rattle.bits.specs.Sequences.{sum}
-use Rattle.bits.specs.Bytes.{overwrite}
-use Rattle.bits.specs.Routines.{overwrite_at}
-use Rattle.bits.specs.Numbers.{to_little_endian}
-use Rattle.bits.proofs.Bytes.{overwrite-tail}
-use Rattle.bits.proofs.Numbers.{length-to_little_endian}
-use Rattle.bits.proofs.Sequences.{sum_mono, first-at, first-none, first-le, length-blocks}
+use Rattle.bits.proofs.Sequences.{below_suc, sum_mono, first-at, first-none, first-le}
 use Rattle.lengths.specs.declared.total.Overflow.{Overflow}
-use Rattle.lengths.specs.Totals.{passing, sum_within, total_bytes}
+use Rattle.lengths.specs.Totals.{passing, sum_within}
 
 -- ---- the sum of j rows
 
@@ -48,6 +41,12 @@ module _ {most : ℕ} {E : ℕ → ℕ} {total j : ℕ} (i : Counting most E tot
   counting_stop {count = count} e h l =
       let p : passing most E count ≡ j = first-at count (λ k. ltb most (sum (suc k) E)) j h (lt-ltb most (sum (suc j) E) (omega (arith, next-total i.summed e))) i.low in
       rw (p, lt-ltb j count h, i.summed.counted, e) refl
+
+  pub counting-next : {n : ℕ} → n ≡ E j → total + n ≤ most → Counting most E (total + n) (j + 1)
+  counting-next e h = record {
+    summed = summed-next i.summed e;
+    low = rw (add-one j) (below_suc (λ (k : ℕ). ltb most (sum (suc k) E) ≡ false) j (le-ltb most (sum (suc j) E) (omega (arith, next-total i.summed e))) i.low);
+  }
 
   pub counting_end : {count : ℕ} → j ≡ count → Ok total ≡ sum_within most E count
   unfolding sum_within
@@ -88,25 +87,3 @@ module _ (most : ℕ) (E : ℕ → ℕ) (count : ℕ) where
       go : (t : Bool) → ltb p count ≡ t → answer t ≡ Err r → (p < count) × (r ≡ record { place = p; before = sum p E; after = sum (suc p) E })
       go true d f = (ltb-true p count d, cc)
       go false d f = absurd cc
-
--- ---- the totals before j rows, written over the front of s₀
-
-pub record Started (w : ℕ) (E : ℕ → ℕ) (s₀ s : List ℕ) (total j : ℕ) : Type 0 where
-  pub summed : Summed E total j
-  pub written : s ≡ overwrite (total_bytes w E j) s₀
-
-pub started_none : (w : ℕ) (E : ℕ → ℕ) (s : List ℕ) → Started w E s s 0 0
-started_none w E s = record { summed = record { counted = refl }; written = refl }
-
-module _ {w : ℕ} {E : ℕ → ℕ} {s₀ s : List ℕ} {total j : ℕ} (i : Started w E s₀ s total j) {t : List ℕ} where
-  one_more : t ≡ overwrite_at (j * w) (to_little_endian w total) s → t ≡ overwrite (total_bytes w E (suc j)) s₀
-  one_more f =
-      let n : length (total_bytes w E j) ≡ j * w = length-blocks j w (λ k. to_little_endian w (sum k E)) (λ k l. length-to_little_endian w (sum k E)) in
-      f ∙ rw (i.written, i.summed.counted) (overwrite-tail (total_bytes w E j) (to_little_endian w (sum j E)) s₀ (j * w) n)
-
-  pub started-next : t ≡ overwrite_at (j * w) (to_little_endian w total) s → {n : ℕ} → n ≡ E j → Started w E s₀ t (total + n) (j + 1)
-  started-next f e = record { summed = summed-next i.summed e; written = rw (add-one j) (one_more f) }
-
-  -- the last one is the total
-  pub started-all : {count : ℕ} → j ≡ count → t ≡ overwrite_at (count * w) (to_little_endian w total) s → t ≡ overwrite (total_bytes w E (suc count)) s₀
-  started-all h f = rw (← h) (one_more (f ∙ rw h refl))

@@ -2,7 +2,7 @@
 use Rattle.std.specs.Prelude.{ℕ, suc, ◌+◌, ◌-◌, ◌*◌, ◌^◌, ◌≤◌, ◌<◌, ◌≡◌, Bool, true, false, if◌then◌else◌, ◌&&◌, List, length}
 use Rattle.std.specs.Borrow.{Bor}
 use Rattle.bits.specs.Numbers.{number_at, is_number_width}
-use Rattle.bits.specs.Bits.{bit_value, is_absent, valid_at}
+use Rattle.bits.specs.Bits.{is_absent, valid_at}
 use Rattle.lengths.specs.declared.row.MaskedRow.{MaskedRow}
 
 -- what selects the output rows, and their offsets: the validity of the rows and the index column, with their bit offsets
@@ -56,17 +56,21 @@ abbrev pub taken_row : Bool → ℕ → MaskedRow
 taken_row true n = record { row = n; valid = 1 }
 taken_row false n = record { row = 0; valid = 0 }
 
+-- the first entry of row n; of a null output row that of row 0, which nothing goes by
+abbrev pub start_at : ℕ → List ℕ → Bool → ℕ → ℕ
+start_at w offsets valid n = number_at w offsets ((taken_row valid n).row)
+
 -- as many entries as the offsets of row n say; none where the output row is null
 unfoldable pub entries_at : ℕ → List ℕ → Bool → ℕ → ℕ
 entries_at w offsets valid n = if valid then number_at w offsets (suc n) - number_at w offsets n else 0
 
--- the number and the bit of index j are there, and the bit of the row that it names, or of row 0 where it is null
+-- the number and the bit of index j are there; where it is valid, so are the bit of the row that it names, and the offset at which the row starts
 pub record SelectionThere (p : Selection) (j : ℕ) : Type 0 where
   pub number_width : is_number_width p.width ≡ true
   pub number : j * p.width + p.width ≤ length p.index_data
   pub selected : is_absent p.index_validity ≡ false → (p.index_bit + j < 8 * length p.index_validity) × (p.index_bit + j < 2 ^ 64)
-  pub shown : is_absent p.validity ≡ false
-      → (p.bit + row_number p j * bit_value (is_selected p j) < 8 * length p.validity) × (p.bit + row_number p j * bit_value (is_selected p j) < 2 ^ 64)
+  pub shown : is_absent p.validity ≡ false → is_selected p j ≡ true → (p.bit + row_number p j < 8 * length p.validity) × (p.bit + row_number p j < 2 ^ 64)
+  pub start : is_selected p j ≡ true → (row_number p j < 2 ^ 59) × (row_number p j * p.offset_width + p.offset_width ≤ length p.offsets)
 
 -- offset 0 is there, and where the output row is valid those of row n, which rise
 pub record EntriesThere (w : ℕ) (offsets : List ℕ) (valid : Bool) (n : ℕ) : Type 0 where

@@ -6,5 +6,5 @@ abbrev pub selection_of : Rattle.lengths.specs.declared.row.Selection.Selection 
 selection_of s = selection_at s.validity s.bit s.offset_width s.offsets s.index_width s.index_data s.index_validity s.index_bit
 
 -- where an offset has ow bytes
-abbrev pub shown_of : (ow : ℕ) → Rattle.lengths.specs.declared.row.Shown.Shown ow → Shown
+abbrev pub shown_of : (ow : ℕ) → Rattle.lengths.specs.declared.turn.Shown.Shown ow → Shown
 shown_of ow s = shown_at ow s.offsets s.index_width s.index_data s.out_validity

@@ -4,7 +4,7 @@ use Rattle.bits.specs.Sequences.{concat, sum, first}
 use Rattle.bits.specs.Numbers.{number_at, to_little_endian, is_number_width}
 use Rattle.bits.specs.Bits.{bit_at, bytes_for}
 use Rattle.lengths.specs.declared.total.Overflow.{Overflow}
-use Rattle.lengths.specs.Entries.{Selection, Shown, row_number, is_shown, entries_at, SelectionThere, EntriesThere}
+use Rattle.lengths.specs.Entries.{Selection, Shown, row_number, is_shown, start_at, entries_at, SelectionThere, EntriesThere}
 
 -- the entries of output row j: before anything is written, and by the validity that is written
 abbrev pub selected_entries : Selection → ℕ → ℕ
@@ -12,6 +12,10 @@ selected_entries p j = entries_at p.offset_width p.offsets (is_shown p j) (row_n
 
 abbrev pub shown_entries : Shown → ℕ → ℕ
 shown_entries p j = entries_at p.offset_width p.offsets (bit_at p.validity j) (number_at p.index_width p.index_data j)
+
+-- where its entries start, by the same
+abbrev pub shown_start : Shown → ℕ → ℕ
+shown_start p j = start_at p.offset_width p.offsets (bit_at p.validity j) (number_at p.index_width p.index_data j)
 
 -- what they are read from is there, and their total is a number of 64 bits
 pub record SelectedThere (p : Selection) (count : ℕ) : Type 0 where
@@ -27,6 +31,7 @@ pub record ShownThere (p : Shown) (count : ℕ) : Type 0 where
   pub number : count * p.index_width ≤ length p.index_data
   pub bits : bytes_for count ≤ length p.validity
   pub entries : (j : ℕ) → j < count → EntriesThere p.offset_width p.offsets (bit_at p.validity j) (number_at p.index_width p.index_data j)
+  pub short : (j : ℕ) → j < count → (shown_start p j < 2 ^ 32) × (shown_entries p j < 2 ^ 32)
   pub small : sum count (shown_entries p) < 2 ^ 64
 
 -- the total of so many rows, or the first after which the running total is above most, with the totals before and after it

@@ -9,7 +9,7 @@ ghost use Rattle.gathers.specs.Ready.{InRange};
 ghost use Rattle.nulls.specs.Nulls.{taken_validity, taken_nulls};
 
 use bitmaps::bit::{BooleanBuffer, validity_of};
-use bits::number::{low, low_bits, write_number};
+use bits::number::{low_bits, write_number, write_up_to};
 use buffers::bit::count_set_bits;
 use tables::column::IndexColumn;
 
@@ -43,11 +43,7 @@ fn set_bits(n: usize, out: &mut [u8])
         return;
     }
     let from = 8 * words;
-    let mut word = ones(n - 8 * from);
-    for k in from..bytes {
-        out[k] = low(word);
-        word /= 256;
-    }
+    write_up_to(out, from, bytes, ones(n - 8 * from));
 }
 
 // Writes the validity of the taken rows, where the rows or the indices have one.

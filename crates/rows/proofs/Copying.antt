@@ -1,200 +1,179 @@
--- The turns of the loops that copy the valid rows, and what the output holds at their end. Assumes nothing.
-use mathlib.Core.Path.{◌≡◌, refl, sym, ap, ap₂, ◌∙◌, subst}
-use mathlib.Core.Bool.{true, false}
+-- The rows of a turn that are copied (specs/Rows.antt): what is written for one, and how far the copy has come. Assumes nothing.
+use mathlib.Core.Path.{◌≡◌, refl, sym, ap, ap₂, ◌∙◌}
+use mathlib.Core.Bool.{Bool, true, false, ◌&&◌}
 use mathlib.Core.List.{List, [], ◌++◌}
-use Prim.Native.Nat.{ℕ, zero, suc, ◌+◌, ◌-◌, ◌*◌, ◌/◌, ◌^◌, ◌≤◌, ◌<◌}
-use native.Mathlib.Numerals.{add-one}
+use Prim.Native.Nat.{ℕ, suc, ◌+◌, ◌-◌, ◌^◌, ◌≤◌, ◌<◌}
+use native.Mathlib.Nat.{add-zero, zero-mul}
 use native.Mathlib.Omega.{arith}
+use lib.Bits.{bit_and}
 use lib.Count.{count_trailing_zeros}
-use lib.ListN.{length, take, drop, length-drop}
+use lib.Dec.{leb, ltb}
+use lib.ListN.{length, get_or, take, drop, length-drop}
 use lib.Seq.{take_all}
+use lib.Pow.{pow_pos}
+use borrow.Author.Tests.{le-leb, leb-true, leb-false, ltb-true, ltb-false}
 use borrow.Rule.Slice.PartMut.{mid_of, put_mid}
-use Rattle.bits.specs.Sequences.{concat}
+use Rattle.bits.specs.Sequences.{concat, sum}
 use Rattle.bits.specs.Bytes.{part, overwrite}
-use Rattle.bits.specs.Numbers.{little_endian, number_at}
-use Rattle.bits.specs.Bits.{bit_at, bytes_for}
-use Rattle.bits.proofs.Bytes.{block_inside, overwrite_at-lent}
-use Rattle.bits.proofs.Numbers.{AllBytes}
-use Rattle.bits.proofs.Sequences.{concat-skip, climb}
-use Rattle.bits.proofs.Words.{NextOne, next_one, no_more}
+use Rattle.bits.specs.Bits.{bit_of}
+use Rattle.bits.proofs.Bytes.{overwrite_at-lent}
+use Rattle.bits.proofs.Sequences.{concat-skip, sum_mono, sum-add, sum-zero}
+use Rattle.bits.proofs.Tests.{and-true, and_right, and-false-right}
+use Rattle.bits.proofs.Words.{bit_of-small, LowestBit, lowest_bit, lowest-cleared, others-kept}
 use Rattle.rows.specs.Front.{front_bytes}
-use Rattle.rows.specs.Rows.{Sources, row_at, row_from, row_length, row_bytes, written_row, RowThere, CopyReady, RowsCopied, rows_to, word_bytes, AreBytes}
+use Rattle.rows.specs.Rows.{Stretches, row_from, row_length, row_bytes, written_row, RowThere, RowsThere}
 use Rattle.rows.proofs.Fronts.{front-first, front_long, written-front}
 
 -- ---- a row's bytes
 
-pub row_bytes-part : (b : Sources) (j : ℕ) → row_bytes b j ≡ part (row_from b j) (row_length b j) b.«data»
+pub row_bytes-part : (b : Stretches) (t : ℕ) → row_bytes b t ≡ part (row_from b t) (row_length b t) b.«data»
 unfolding row_bytes
-row_bytes-part b j = refl
+row_bytes-part b t = refl
 
-pub row_bytes-empty : (b : Sources) (j : ℕ) → row_at b (j + 1) ≡ row_at b j → row_bytes b j ≡ []
+row_length-empty : (b : Stretches) (t : ℕ) → get_or b.lengths t 0 ≡ 0 → row_length b t ≡ 0
+row_length-empty b t e = rw e (zero-mul b.unit)
+
+pub row_bytes-empty : (b : Stretches) (t : ℕ) → get_or b.lengths t 0 ≡ 0 → row_bytes b t ≡ []
 unfolding row_bytes
-row_bytes-empty b j e = let z : row_length b j ≡ 0 = omega (arith, e) in ap (λ (n : ℕ). part (row_from b j) n b.«data») z
+row_bytes-empty b t e = ap (λ (n : ℕ). part (row_from b t) n b.«data») (row_length-empty b t e)
 
 -- ---- one row
 
--- the tail of the output from its place on was lent, and y is what came back
-module _ {b : Sources} {room j : ℕ} (p : RowThere b room j) {at end row from : ℕ} (a : at ≡ row_at b j) (e : end ≡ row_at b (j + 1))
-    (d : row ≡ number_at b.index_width b.index_data j) (f : from ≡ number_at b.offset_width b.offsets row) where
+module _ {b : Stretches} {room t p : ℕ} (q : RowThere b room t p) where
+  -- the tail of the output from its place on was lent, and y is what came back
   pub row_written : (o : List ℕ) {y : List ℕ} → length o ≡ room
-      → y ≡ overwrite (front_bytes (end - at) (length (part (from * b.unit) (length b.«data» - from * b.unit) b.«data»)) (length (mid_of at (length o - at) o)) (part (from * b.unit) (length b.«data» - from * b.unit) b.«data»)) (mid_of at (length o - at) o)
-      → put_mid at (length o - at) o y ≡ written_row b j o
+      → y ≡ overwrite (front_bytes (row_length b t) (length (part (row_from b t) (length b.«data» - row_from b t) b.«data»)) (length (mid_of p (length o - p) o)) (part (row_from b t) (length b.«data» - row_from b t) b.«data»)) (mid_of p (length o - p) o)
+      → put_mid p (length o - p) o y ≡ written_row b t p o
   unfolding written_row
   row_written o long h =
       let s : List ℕ = b.«data» in
-      let q : ℕ = row_from b j in
-      let starts : from * b.unit ≡ q = rw (f, d) refl in
-      let rest : part q (length s - q) s ≡ drop q s = take_all (length s - q) (drop q s) (omega (arith, length-drop q s)) in
-      let tail : mid_of (row_at b j) (length o - row_at b j) o ≡ drop (row_at b j) o = take_all (length o - row_at b j) (drop (row_at b j) o) (omega (arith, length-drop (row_at b j) o)) in
-      let k : ℕ → ℕ → List ℕ → List ℕ = λ r w t. overwrite (front_bytes (row_length b j) r w t) (mid_of (row_at b j) (length o - row_at b j) o) in
-      rw a
-      (overwrite_at-lent (row_at b j) (front_bytes (row_length b j) (length s - q) (length o - row_at b j) (drop q s)) o
-      (rw (a, e, starts) at h
-      ∙ ap (λ (t : List ℕ). k (length t) (length (mid_of (row_at b j) (length o - row_at b j) o)) t) rest
-      ∙ ap₂ (λ (r w : ℕ). k r w (drop q s)) (length-drop q s) (ap length tail ∙ length-drop (row_at b j) o)))
+      let f : ℕ = row_from b t in
+      let rest : part f (length s - f) s ≡ drop f s = take_all (length s - f) (drop f s) (omega (arith, length-drop f s)) in
+      let tail : mid_of p (length o - p) o ≡ drop p o = take_all (length o - p) (drop p o) (omega (arith, length-drop p o)) in
+      let k : ℕ → ℕ → List ℕ → List ℕ = λ r w z. overwrite (front_bytes (row_length b t) r w z) (mid_of p (length o - p) o) in
+      overwrite_at-lent p (front_bytes (row_length b t) (length s - f) (length o - p) (drop f s)) o
+      (h
+      ∙ ap (λ (z : List ℕ). k (length z) (length (mid_of p (length o - p) o)) z) rest
+      ∙ ap₂ (λ (r w : ℕ). k r w (drop f s)) (length-drop f s) (ap length tail ∙ length-drop p o))
 
--- what it leaves: its bytes right after those before it
-pub row_put : {b : Sources} {room j : ℕ} → RowThere b room j → (o : List ℕ) {o' : List ℕ} → length o ≡ room → o' ≡ written_row b j o
-    → take (row_at b (j + 1)) o' ≡ take (row_at b j) o ++ row_bytes b j
-unfolding written_row row_bytes
-row_put {b} {room} {j} p o {o'} long w =
-    let n : ℕ = row_length b j in
-    let s : List ℕ = drop (row_from b j) b.«data» in
-    let r : ℕ = length b.«data» - row_from b j in
-    let e : List ℕ = front_bytes n r (length o - row_at b j) s in
-    let here : n ≤ length s = omega (arith, length-drop (row_from b j) b.«data», p.read) in
-    let enough : n ≤ length e = (front_long n r (length o - row_at b j) s here (omega (arith, p.rises, p.ends))).0 in
-    let start : row_at b j ≤ length o = omega (arith, p.rises, p.ends) in
-    let end : row_at b j + n ≡ row_at b (j + 1) = omega (arith, p.rises) in
-    ap (λ (m : ℕ). take m o') (sym end)
-    ∙ rw w (written-front (row_at b j) e o start n enough)
-    ∙ ap (λ (t : List ℕ). take (row_at b j) o ++ t) (front-first n r (length o - row_at b j) s here)
+  -- what it leaves: its bytes right after those before it
+  pub row_put : (o : List ℕ) {o' : List ℕ} → length o ≡ room → o' ≡ written_row b t p o → take (p + row_length b t) o' ≡ take p o ++ row_bytes b t
+  unfolding written_row row_bytes
+  row_put o {o'} long w =
+      let n : ℕ = row_length b t in
+      let s : List ℕ = drop (row_from b t) b.«data» in
+      let r : ℕ = length b.«data» - row_from b t in
+      let e : List ℕ = front_bytes n r (length o - p) s in
+      let here : n ≤ length s = omega (arith, length-drop (row_from b t) b.«data», q.read) in
+      let enough : n ≤ length e = (front_long n r (length o - p) s here (omega (arith, q.ends, long))).0 in
+      rw w (written-front p e o (omega (arith, q.ends, long)) n enough)
+      ∙ ap (λ (z : List ℕ). take p o ++ z) (front-first n r (length o - p) s here)
 
 -- ---- how far the copy has come
 
-at-skip : (b : Sources) (j t : ℕ) → ((i : ℕ) → i < t → row_at b (j + i + 1) ≡ row_at b (j + i)) → row_at b (j + t) ≡ row_at b j
-at-skip b j zero h = let e : j + 0 ≡ j = omega arith in ap (row_at b) e
-at-skip b j (suc t) h =
-    let e : j + suc t ≡ j + t + 1 = omega arith in
-    ap (row_at b) e ∙ h t (omega arith) ∙ at-skip b j t (λ i l. h i (omega arith))
+-- the rows before row `next` are at the front of o, which is filled up to `at`, and `left` has the bits of the others
+pub record RowsCopied (b : Stretches) (word rows : ℕ) (o : List ℕ) (left at : ℕ) : Type 0 where
+  pub next : ℕ
+  pub within : next ≤ rows
+  pub rest : (i : ℕ) → bit_of left i ≡ (bit_of word i && leb next i)
+  pub filled : at ≡ sum next (row_length b)
+  pub front : take at o ≡ concat next (row_bytes b)
 
--- none has, if the first is at the front
-pub copied_none : {b : Sources} (o : List ℕ) → row_at b 0 ≡ 0 → RowsCopied b o 0
-copied_none o z = record { front = rw z }
+-- none has
+pub copied-none : (b : Stretches) (word rows : ℕ) (o : List ℕ) → RowsCopied b word rows o word 0
+copied-none b word rows o = record {
+  next = 0;
+  within = omega arith;
+  rest = λ i. sym (rw (le-leb 0 i (omega arith)) (and_right (bit_of word i)));
+  filled = refl;
+  front = refl;
+}
 
-module _ {b : Sources} {valid : List ℕ} {count : ℕ} (q : CopyReady b valid count) where
+module _ {b : Stretches} {word rows : ℕ} (q : RowsThere b word rows) where
   -- null rows have no bytes
-  copied-nulls : {o : List ℕ} (j t : ℕ) → j + t ≤ count → ((i : ℕ) → i < t → bit_at valid (j + i) ≡ false) → RowsCopied b o j → RowsCopied b o (j + t)
-  copied-nulls {o} j t h n i =
-      let none : (k : ℕ) → k < t → row_at b (j + k + 1) ≡ row_at b (j + k) = λ k l. q.empty (j + k) (omega arith) (n k l) in
-      record {
-        front = ap (λ (m : ℕ). take m o) (at-skip b j t none) ∙ i.front ∙ sym (concat-skip j t (row_bytes b) (λ k l. row_bytes-empty b (j + k) (none k l)));
+  sum-nulls : (t k : ℕ) → t + k ≤ rows → ((i : ℕ) → i < k → bit_of word (t + i) ≡ false) → sum (t + k) (row_length b) ≡ sum t (row_length b)
+  sum-nulls t k h n =
+      let z : sum k (λ i. row_length b (t + i)) ≡ 0 = sum-zero k (λ i. row_length b (t + i)) (λ i l. row_length-empty b (t + i) (q.empty (t + i) (omega arith) (n i l))) in
+      sum-add t k (row_length b) ∙ rw z (add-zero (sum t (row_length b)))
+
+  concat-nulls : (t k : ℕ) → t + k ≤ rows → ((i : ℕ) → i < k → bit_of word (t + i) ≡ false) → concat (t + k) (row_bytes b) ≡ concat t (row_bytes b)
+  concat-nulls t k h n = concat-skip t k (row_bytes b) (λ i l. row_bytes-empty b (t + i) (q.empty (t + i) (omega arith) (n i l)))
+
+  module _ {o : List ℕ} {left at : ℕ} (i : RowsCopied b word rows o left at) where
+    -- a row from the next on whose bit is not left is null
+    null-row : (j : ℕ) → i.next ≤ j → bit_of left j ≡ false → bit_of word j ≡ false
+    null-row j h e = sym (and_right (bit_of word j)) ∙ ap (λ (t : Bool). bit_of word j && t) (sym (le-leb i.next j h)) ∙ sym (i.rest j) ∙ e
+
+    module _ (small : left < 2 ^ 32) (n : left ≡ 0 → ⊥) {room : ℕ} (r : sum rows (row_length b) ≡ room) where
+      abbrev t : ℕ
+      t = count_trailing_zeros 32 left
+
+      low : LowestBit left t (bit_and left (left - 1))
+      low = lowest_bit 32 left small n
+
+      both : (bit_of word t ≡ true) × (leb i.next t ≡ true)
+      both = and-true (bit_of word t) (leb i.next t) (sym (i.rest t) ∙ low.set)
+
+      inside : t < rows
+      inside = q.spare t both.0
+
+      abbrev skipped : ℕ
+      skipped = t - i.next
+
+      up : i.next + skipped ≡ t
+      up = omega (arith, leb-true i.next t both.1)
+
+      nulls : (j : ℕ) → j < skipped → bit_of word (i.next + j) ≡ false
+      nulls j h = null-row (i.next + j) (omega arith) (low.below (i.next + j) (omega (arith, up)))
+
+      here : at ≡ sum t (row_length b)
+      here = i.filled ∙ sym (sum-nulls i.next skipped (omega (arith, up, inside)) nulls) ∙ ap (λ (m : ℕ). sum m (row_length b)) up
+
+      -- the next row that is valid is there
+      pub next_there : RowThere b room t at
+      next_there =
+          let end : sum (suc t) (row_length b) ≤ sum rows (row_length b) = sum_mono {i = suc t} rows (row_length b) inside in
+          record {
+            listed = (omega (arith, inside, q.listed.0), omega (arith, inside, q.listed.1));
+            read = q.read t inside both.0;
+            ends = omega (arith, end, here, r);
+          }
+
+      rest-left : (j : ℕ) → bit_of (bit_and left (left - 1)) j ≡ (bit_of word j && leb (suc t) j)
+      rest-left j = go (leb (suc t) j) refl
+        where
+          go : (s : Bool) → leb (suc t) j ≡ s → bit_of (bit_and left (left - 1)) j ≡ (bit_of word j && s)
+          go true e =
+              let past : t < j = leb-true (suc t) j e in
+              let from : i.next ≤ j = omega (arith, past, up) in
+              others-kept low j (λ z. omega arith) ∙ i.rest j ∙ rw (le-leb i.next j from) refl
+          go false e = go-below (ltb j t) refl
+            where
+              go-below : (z : Bool) → ltb j t ≡ z → bit_of (bit_and left (left - 1)) j ≡ (bit_of word j && false)
+              go-below true d = others-kept low j (λ z. omega (arith, ltb-true j t d, z)) ∙ low.below j (ltb-true j t d) ∙ sym (and-false-right (bit_of word j) refl)
+              go-below false d =
+                  let same : j ≡ t = omega (arith, leb-false (suc t) j e, ltb-false j t d) in
+                  rw same (lowest-cleared low ∙ sym (and-false-right (bit_of word t) refl))
+
+      -- and is copied after those before it
+      pub copied_next : {end : ℕ} {o' : List ℕ} → length o ≡ room → end ≡ at + row_length b t → o' ≡ written_row b t at o
+          → RowsCopied b word rows o' (bit_and left (left - 1)) end
+      copied_next {end} {o'} long e w = record {
+        next = suc t;
+        within = omega (arith, inside);
+        rest = rest-left;
+        filled = e ∙ rw here refl;
+        front =
+            ap (λ (m : ℕ). take m o') e
+            ∙ row_put next_there o long w
+            ∙ ap (λ (s : List ℕ). s ++ row_bytes b t) (i.front ∙ sym (concat-nulls i.next skipped (omega (arith, up, inside)) nulls) ∙ ap (λ (m : ℕ). concat m (row_bytes b)) up);
       }
 
-  at_most : (j : ℕ) → j < count → row_at b (j + 1) ≤ row_at b count
-  at_most j h = climb count (row_at b) (λ k l. subst (λ (m : ℕ). row_at b k ≤ row_at b m) (add-one k) (q.rises k l)) (j + 1) (omega arith)
-
-  -- a valid row
-  module _ (j : ℕ) (h : j < count) (t : bit_at valid j ≡ true) {room : ℕ} (r : row_at b count ≡ room) where
-    row-there : RowThere b room j
-    row-there = record {
-      few = omega (arith, q.few);
-      offset_width = q.offset_width;
-      index_width = q.index_width;
-      numbered = omega (arith, q.numbered, block_inside j count b.index_width h);
-      found = q.found j h t;
-      started = omega (arith, q.started, block_inside j (count + 1) b.offset_width (omega arith));
-      ended = omega (arith, q.started, block_inside (j + 1) (count + 1) b.offset_width (omega arith));
-      rises = q.rises j h;
-      ends = omega (arith, r, at_most j h);
-      read = q.read j h t;
-    }
-
-    -- its bytes come after those before it
-    copied_next : {o o' : List ℕ} → length o ≡ room → o' ≡ written_row b j o → RowsCopied b o j → RowsCopied b o' (j + 1)
-    copied_next {o} long e i = record {
-      front = row_put row-there o long e ∙ ap (λ (s : List ℕ). s ++ row_bytes b j) i.front ∙ ap (λ (n : ℕ). concat n (row_bytes b)) (sym (add-one j));
-    }
-
--- ---- a word of the validity
-
--- a row of the word has its bit in the bytes of the word
-bit-inside : (count k j l : ℕ) → 8 * k ≤ j → j + l < count → j + l < 8 * (k + 8) → j - 8 * k + l < 8 * word_bytes count k
-bit-inside count k j l h c e = omega arith
-
-row_inside : (count k j l : ℕ) → l < rows_to count k - j → (j + l < count) × (j + l < 8 * k)
-row_inside count k j l h = (omega arith, omega arith)
-
--- of the rows of the word at byte k, those before j are copied, and `word` has the bits of the others
-pub record WordCopied (b : Sources) (valid : List ℕ) (count : ℕ) (o : List ℕ) (k word j : ℕ) : Type 0 where
-  pub after : 8 * k ≤ j
-  pub within : j ≤ rows_to count (k + 8)
-  pub left : word ≡ little_endian (part k (word_bytes count k) valid) / 2 ^ (j - 8 * k)
-  pub copied : RowsCopied b o j
-
--- the next valid row is t rows on, and there are none between
-record Turn (valid : List ℕ) (count k word j t : ℕ) : Type 0 where
-  short : t < 64
-  inside : j + t < count
-  within : j + t < 8 * (k + 8)
-  nulls : (i : ℕ) → i < t → bit_at valid (j + i) ≡ false
-  set : bit_at valid (j + t) ≡ true
-  left : word / 2 ^ t / 2 ^ 1 ≡ little_endian (part k (word_bytes count k) valid) / 2 ^ (j + t + 1 - 8 * k)
-
-module _ {b : Sources} {valid : List ℕ} {count : ℕ} (q : CopyReady b valid count) (are : AreBytes valid)
-    {o : List ℕ} {k word j : ℕ} (h : k < bytes_for count) (i : WordCopied b valid count o k word j) where
-  abbrev m : ℕ
-  m = word_bytes count k
-
-  bytes : AllBytes valid
-  bytes p = record { fits = are p }
-
-  there : k + m ≤ length valid
-  there = omega (arith, q.shown)
-
-  module _ (n : word ≡ 0 → ⊥) {room : ℕ} (r : row_at b count ≡ room) where
-    abbrev t : ℕ
-    t = count_trailing_zeros 64 word
-
-    word-turn : Turn valid count k word j t
-    word-turn =
-        let d : ℕ = j - 8 * k in
-        let one : NextOne k m valid d t word = next_one k m valid bytes there d i.left (omega arith) n in
-        let at : (l : ℕ) → 8 * k + (d + l) ≡ j + l = λ l. omega (arith, i.after) in
-        let set : bit_at valid (j + t) ≡ true = ap (bit_at valid) (sym (at t)) ∙ one.set in
-        let inside : j + t < count = q.spare (j + t) (omega (arith, one.inside, i.after)) set in
-        let next : d + t + 1 ≡ j + t + 1 - 8 * k = omega (arith, i.after) in
-        record {
-          short = omega (arith, one.inside);
-          inside = inside;
-          within = omega (arith, one.inside, i.after);
-          nulls = λ l f. ap (bit_at valid) (sym (at l)) ∙ one.unset l f;
-          set = set;
-          left = one.after ∙ ap (λ (e : ℕ). little_endian (part k m valid) / 2 ^ e) next;
-        }
-
-    pub word_row : RowThere b room (j + t)
-    word_row = row-there q (j + t) word-turn.inside word-turn.set r
-
-    pub word_next : {o' : List ℕ} → length o ≡ room → o' ≡ written_row b (j + t) o → WordCopied b valid count o' k (word / 2 ^ t / 2 ^ 1) (j + t + 1)
-    word_next long e =
-        let v : Turn valid count k word j t = word-turn in
-        record {
-          after = omega (arith, i.after);
-          within = omega (arith, v.inside, v.within);
-          left = v.left;
-          copied = copied_next q (j + t) v.inside v.set r long e (copied-nulls q j t (omega (arith, v.inside)) v.nulls i.copied);
-        }
-
-  pub word_end : word ≡ 0 → RowsCopied b o (rows_to count (k + 8))
-  word_end z =
-      let d : ℕ = j - 8 * k in
-      let e : ℕ = rows_to count (k + 8) in
-      let at : (l : ℕ) → 8 * k + (d + l) ≡ j + l = λ l. omega (arith, i.after) in
-      let all : j + (e - j) ≡ e = omega (arith, i.within) in
-      subst (RowsCopied b o) all
-      (copied-nulls q j (e - j) (omega arith)
-      (λ l f.
-      let r = row_inside count (k + 8) j l f in
-      ap (bit_at valid) (sym (at l)) ∙ no_more k m valid bytes there d i.left z l (bit-inside count k j l i.after r.0 r.1))
-      i.copied)
+    -- none is left: the rows fill the output
+    pub copied_all : left ≡ 0 → sum rows (row_length b) ≡ length o → o ≡ concat rows (row_bytes b)
+    copied_all e long =
+        let k : ℕ = rows - i.next in
+        let all : i.next + k ≡ rows = omega (arith, i.within) in
+        let none : (j : ℕ) → j < k → bit_of word (i.next + j) ≡ false = λ j l. null-row (i.next + j) (omega arith) (rw e (bit_of-small 0 (i.next + j) (pow_pos (i.next + j)))) in
+        let full : at ≡ length o = i.filled ∙ sym (sum-nulls i.next k (omega (arith, i.within)) none) ∙ ap (λ (m : ℕ). sum m (row_length b)) all ∙ long in
+        sym (take_all at o (omega (arith, full))) ∙ i.front ∙ sym (concat-nulls i.next k (omega (arith, i.within)) none) ∙ ap (λ (m : ℕ). concat m (row_bytes b)) all

@@ -1,7 +1,5 @@
 -- The struct that the code passes, as what is read.
-use Rattle.std.specs.Prelude.{ℕ}
-use Rattle.rows.specs.Rows.{Sources, sources_at}
+use Rattle.rows.specs.Rows.{Stretches, stretches_at}
 
--- where an offset has ow bytes
-abbrev pub sources_of : (ow : ℕ) → Rattle.rows.specs.declared.row.Sources.Sources ow → Sources
-sources_of ow s = sources_at s.unit ow s.index_width s.«data» s.offsets s.index_data s.out_offsets
+abbrev pub stretches_of : Rattle.rows.specs.declared.row.Stretches.Stretches → Stretches
+stretches_of s = stretches_at s.unit s.«data» s.starts s.lengths

@@ -1,117 +1,63 @@
-// The valid rows of a column of variable width, copied to the front of the output. Which rows are valid is read from the output's own validity, 64 rows as one
-// word, from its lowest bit that is set to the next. A null row has no bytes, so nothing is done for it, and no branch asks whether a row is null.
-// Rows of a few bytes are read and written by 8, but never past the ends of the data and the output. So the caller cuts the data to what the offsets need, and
-// `copy_rows` cuts the output to what the rows use. Its length is a clause of each function: it is lent to be written, and `Sources` holds what is read.
-ghost use Rattle.std.specs.Prelude.{◌≡◌, ◌+◌, ◌-◌, ◌*◌, ◌^◌, ◌≤◌, ◌<◌, length};
-ghost use Rattle.bits.specs.Sequences.{concat};
-ghost use Rattle.bits.specs.Bytes.{part, overwrite};
-ghost use Rattle.bits.specs.Numbers.{little_endian};
-ghost use Rattle.bits.specs.Bits.{bytes_for};
-ghost use Rattle.rows.specs.Rows.{sources_at, row_at, row_bytes, written_row, RowThere, CopyReady, RowsCopied, rows_to, AreBytes};
+// The valid rows of a turn, 32 at most, copied one after the other. Each row is listed: where its entries start in the data, and how many it has. A word has a bit
+// for each, and the loop goes from its lowest bit that is set to the next. A null row has no entries, so nothing is done for it, and no branch asks whether a row is
+// null. Rows of a few bytes are read and written by 8, but never past the ends of the data and the output. So the caller cuts the data to what the offsets need,
+// and the output to what the rows of the turn use. Its length is a clause of each function: it is lent to be written, and `Stretches` holds what is read.
+ghost use Rattle.std.specs.Prelude.{◌≡◌, ◌+◌, length};
+ghost use Rattle.bits.specs.Sequences.{concat, sum};
+ghost use Rattle.rows.specs.Rows.{stretches_at, row_length, row_bytes, written_row, RowThere, RowsThere};
 
 use crate::front::copy_front;
-use bits::number::{number_at, read_number, read_rest};
 
-// What the rows are copied by: the data and its offsets, of OW bytes, an entry of `unit` bytes, the indices, the offsets of the output, and the validity that
-// is written for it. The rows that it shows are there.
+// The rows of a turn, so many: the data, an entry of `unit` bytes, the first entry of each row, and how many it has. Those whose bits are set in the word are in
+// the data, and the others have no entries.
 #[derive(Clone, Copy)]
-pub struct Sources<'a, const OW: usize> {
+pub struct Stretches<'a> {
     pub unit: usize,
     pub data: &'a [u8],
-    pub offsets: &'a [u8],
-    pub index_width: usize,
-    pub index_data: &'a [u8],
-    pub out_offsets: &'a [u8],
-    pub out_validity: &'a [u8],
-    pub count: usize,
-    ghost ready: { CopyReady (sources_at unit OW index_width «data» offsets index_data out_offsets) out_validity.now count },
+    pub starts: &'a [u32],
+    pub lengths: &'a [u32],
+    pub word: u32,
+    pub rows: usize,
+    ghost there: { RowsThere (stretches_at unit «data» starts lengths) word rows },
 }
 
-impl<const OW: usize> Sources<'_, OW> {
-    ghost use Rattle.rows.specs.Lent.{sources_of};
+impl Stretches<'_> {
+    ghost use Rattle.rows.specs.Lent.{stretches_of};
 
-    // Where output row j starts.
-    fn row_at(&self, j: usize) -> usize
-        requires there { j * OW + OW ≤ length self.now.out_offsets.now }
-        requires fits { row_at (sources_of OW self.now) j < 2 ^ 64 }
-        ensures { result ≡ row_at (sources_of OW self.now) j }
+    // Row t, from byte `at` of the output on; answers where it ends. The bytes before it stay; those after it may become zeros, and are written later.
+    fn copy_row(&self, out_data: &mut [u8], t: usize, at: usize) -> usize
+        requires { RowThere (stretches_of self.now) (length out_data.old) t at }
+        ensures end { result ≡ at + row_length (stretches_of self.now) t }
+        ensures data { out_data.new ≡ written_row (stretches_of self.now) t at out_data.old }
     {
-        number_at(self.out_offsets, OW, j) as usize * self.unit
+        let from = self.starts[t] as usize * self.unit;
+        let n = self.lengths[t] as usize * self.unit;
+        copy_front(&self.data[from..], n, &mut out_data[at..]);
+        at + n
     }
 
-    // Output row j, which is valid. The bytes before it stay; those after it may become zeros, and are written later.
-    fn copy_row(&self, out_data: &mut [u8], j: usize)
-        requires { RowThere (sources_of OW self.now) (length out_data.old) j }
-        ensures { out_data.new ≡ written_row (sources_of OW self.now) j out_data.old }
-    {
-        let at = self.row_at(j);
-        let end = self.row_at(j + 1);
-        let row = number_at(self.index_data, self.index_width, j) as usize;
-        let from = number_at(self.offsets, OW, row) as usize * self.unit;
-        copy_front(&self.data[from..], end - at, &mut out_data[at..]);
-    }
-
-    // The valid rows of the word at byte k of the validity.
-    fn copy_word(&self, out_data: &mut [u8], k: usize)
-        requires word_there { (row_at (sources_of OW self.now) self.now.count ≡ length out_data.old) × (k < bytes_for self.now.count) }
-        requires rows_copied { RowsCopied (sources_of OW self.now) out_data.old (8 * k) }
-        ensures { RowsCopied (sources_of OW self.now) out_data.new (rows_to self.now.count (k + 8)) }
-    {
-        let mut word = word_at(self.out_validity, k, self.count.div_ceil(8));
-        let mut j = 8 * k;
-        // A turn goes to the next bit that is set, which no range counts.
-        while word != 0 {
-            let t = word.trailing_zeros() as usize;
-            j += t;
-            self.copy_row(out_data, j);
-            word = word >> t >> 1;
-            j += 1;
-        }
-    }
-
-    // All words.
-    fn copy_words(&self, out_data: &mut [u8])
-        requires { row_at (sources_of OW self.now) self.now.count ≡ length out_data.old }
-        ensures { out_data.new ≡ concat self.now.count (row_bytes (sources_of OW self.now)) }
-    {
-        let bytes = self.count.div_ceil(8);
-        for k in (0..bytes).step_by(8) {
-            self.copy_word(out_data, k);
-        }
-    }
-
-    // All valid rows, a word of their bits at a time: each offset width has a loop of its own. (In line, its registers would be taken from the loop over the
-    // offsets before it.)
-    #[inline(never)]
+    // All rows. They fill the output.
     pub fn copy_rows(&self, out_data: &mut [u8])
-        requires { row_at (sources_of OW self.now) self.now.count ≤ length out_data.old }
-        ensures { out_data.new ≡ overwrite (concat self.now.count (row_bytes (sources_of OW self.now))) out_data.old }
+        requires { sum self.now.rows (row_length (stretches_of self.now)) ≡ length out_data.old }
+        ensures { out_data.new ≡ concat self.now.rows (row_bytes (stretches_of self.now)) }
     {
-        // field by field, and each slice cut anew: of the whole, or of a slice as it lies there, a core without unaligned accesses makes a call of `memcpy`
-        let sources = Self {
+        // field by field, and each slice cut anew, so that they lie in registers: a store to the output might change what a reference shows, for all that the compiler
+        // knows, and a copy of the whole is a call of `memcpy` on a core without unaligned accesses
+        let stretches = Self {
             unit: self.unit,
             data: &self.data[..],
-            offsets: &self.offsets[..],
-            index_width: self.index_width,
-            index_data: &self.index_data[..],
-            out_offsets: &self.out_offsets[..],
-            out_validity: &self.out_validity[..],
-            count: self.count,
+            starts: &self.starts[..],
+            lengths: &self.lengths[..],
+            word: self.word,
+            rows: self.rows,
         };
-        let used = sources.row_at(sources.count);
-        sources.copy_words(&mut out_data[..used]);
+        let mut left = stretches.word;
+        let mut at = 0;
+        // A turn goes to the lowest bit that is left, which no range counts, and takes it away.
+        while left != 0 {
+            let t = left.trailing_zeros() as usize;
+            at = stretches.copy_row(out_data, t, at);
+            left &= left - 1;
+        }
     }
-}
-
-// The bytes of the validity from k up to n, but at most 8, as one number: the bits of up to 64 rows. The second clause says that they are bytes. The check
-// knows that of a slice that is a parameter, as here, and not of one that is a field, as the caller's is.
-fn word_at(valid: &[u8], k: usize, n: usize) -> u64
-    requires { (k ≤ n) × (n ≤ length valid.now) }
-    ensures number { result ≡ little_endian (part k (8 - (8 - (n - k))) valid.now) }
-    ensures bytes { AreBytes valid.now }
-{
-    if 8 <= n - k {
-        return read_number::<8>(valid, k);
-    }
-    read_rest(valid, k, n)
 }

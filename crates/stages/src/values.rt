@@ -7,7 +7,7 @@ ghost use Rattle.tables.specs.Refusals.{max_rows};
 ghost use Rattle.tables.specs.Columns.{column_of, index_column_of};
 ghost use Rattle.gathers.specs.Taken.{taken};
 ghost use Rattle.gathers.specs.Stored.{null_count};
-ghost use Rattle.gathers.specs.Ready.{Ready, NoOverflow, HasRoom, stored_offsets, stored_data};
+ghost use Rattle.gathers.specs.Ready.{Ready, HasRoom, stored_offsets, stored_data};
 ghost use Rattle.gathers.specs.Buffers.{Validates};
 
 use bitmaps::bit::BooleanBuffer;
@@ -42,7 +42,6 @@ pub fn take_values(
     requires ready { Ready (column_of column.now) (index_column_of indices.now) }
     requires has_room { HasRoom (column_of column.now) (index_column_of indices.now) out_offsets.old out_data.old }
     requires nulls { nulls ≡ null_count (taken (column_of column.now) (index_column_of indices.now)) }
-    requires no_overflow { NoOverflow (column_of column.now) (index_column_of indices.now) }
     requires validates { Validates column.now.validity.now column.now.table.validity_bit (index_column_of indices.now) out_validity.now }
     ensures offsets_stored { out_offsets.new ≡ stored_offsets (column_of column.now) (index_column_of indices.now) out_offsets.old }
     ensures data_stored { out_data.new ≡ stored_data (column_of column.now) (index_column_of indices.now) out_data.old }

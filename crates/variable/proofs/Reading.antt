@@ -2,17 +2,17 @@
 use mathlib.Core.Path.{◌≡◌, refl, sym, ◌∙◌, subst}
 use mathlib.Core.Bool.{Bool, true, false, ◌&&◌}
 use mathlib.Core.List.{List}
-use Prim.Native.Nat.{ℕ, suc, ◌+◌, ◌*◌, ◌≤◌, ◌<◌}
-use native.Mathlib.Nat.{mul-one, mul-zero}
+use Prim.Native.Nat.{ℕ, suc, ◌+◌, ◌*◌, ◌^◌, ◌≤◌, ◌<◌}
+use native.Mathlib.Nat.{mul-le-mul_left}
 use native.Mathlib.Omega.{arith}
 use lib.Dec.{eqb}
 use lib.ListN.{length}
 use borrow.Author.Tests.{eqb-true, eq-eqb}
 use Rattle.bits.specs.Sequences.{sum}
 use Rattle.bits.specs.Numbers.{number_at, is_number_width}
-use Rattle.bits.specs.Bits.{bit_value, bit_at, valid_at}
+use Rattle.bits.specs.Bits.{bit_at, valid_at}
 use Rattle.tables.specs.declared.table.Layout.TheVariants.{VariableWidth}
-use Rattle.tables.specs.Columns.{Column, IndexColumn, layout_at, index_valid, index}
+use Rattle.tables.specs.Columns.{Column, IndexColumn, layout_at, index_valid, index, offset_at}
 use Rattle.gathers.specs.Buffers.{taken_bit_valid, taken_entries, Validates}
 use Rattle.gathers.specs.Ready.{Ready}
 use Rattle.bits.proofs.Sequences.{sum-cong}
@@ -23,8 +23,8 @@ use Rattle.tables.proofs.There.{index_number, index-valid, index-there, index-va
 use Rattle.tables.proofs.Offsets.{VariableFacts, rises}
 use Rattle.tables.proofs.Views.{offset_at-number}
 use Rattle.gathers.proofs.Buffers.{valid-below, validates-bit, valid-null, valid-by-bit, valid-by-index, bit-named}
-use Rattle.gathers.proofs.VariableRows.{ready-facts, taken-below, entries-valid, entries-null, total-small}
-use Rattle.lengths.specs.Entries.{Selection, Shown, row_number, is_selected, is_shown, entries_at, SelectionThere, EntriesThere}
+use Rattle.gathers.proofs.VariableRows.{ready-facts, taken-below, taken-small, variable-inside, entries-valid, entries-null, total-small}
+use Rattle.lengths.specs.Entries.{Selection, Shown, row_number, is_selected, is_shown, start_at, entries_at, SelectionThere, EntriesThere}
 use Rattle.lengths.specs.Totals.{selected_entries, shown_entries, SelectedThere, ShownThere}
 use Rattle.lengths.proofs.Masking.{entries_at-valid, entries_at-null}
 
@@ -111,6 +111,21 @@ module _ {u : ℕ} {c : Column} {x : IndexColumn} (r : Ready c x) (e : layout_at
   pub taken-row : (j : ℕ) → j < x.indices.count → {t : Bool} → t ≡ is_taken c x j → t ≡ true → number_at x.indices.width x.«data» j < c.table.rows
   taken-row j h d t = rw (← index_number x j) (taken-below c x u e r j h (sym d ∙ t))
 
+  -- it is small, for so is the data
+  offset-small : (i : ℕ) → i ≤ c.table.rows → number_at c.table.offset_width c.offsets i < 2 ^ 32
+  offset-small i h =
+      let one : offset_at c i * 1 ≤ offset_at c i * u = mul-le-mul_left (offset_at c i) facts.unit in
+      omega (arith, one, variable-inside c x u e r i h, facts.small, offset_at-number c i)
+
+  start-small : (t : Bool) (n : ℕ) → (t ≡ true → n < c.table.rows) → start_at c.table.offset_width c.offsets t n < 2 ^ 32
+  start-small true n h = offset-small n (omega (arith, h refl))
+  start-small false n h = offset-small 0 (omega arith)
+
+  entries-small : (j : ℕ) → j < x.indices.count → taken_entries c x j < 2 ^ 32
+  entries-small j h =
+      let one : taken_entries c x j * 1 ≤ taken_entries c x j * u = mul-le-mul_left (taken_entries c x j) facts.unit in
+      omega (arith, one, taken-small c x u e r j h)
+
   entries-there : (t : Bool) (n : ℕ) → (t ≡ true → n < c.table.rows) → EntriesThere c.table.offset_width c.offsets t n
   entries-there t n h = record {
     offset_width = offset-number;
@@ -120,29 +135,26 @@ module _ {u : ℕ} {c : Column} {x : IndexColumn} (r : Ready c x) (e : layout_at
     rises = λ q. rw (← offset_at-number c n, ← offset_at-number c (suc n)) (rises u c facts n (h q));
   }
 
-  -- the bit of the row that a valid index names, else of row 0
-  selection-there : 0 < c.table.rows → (j : ℕ) → j < x.indices.count → SelectionThere (selection_of c x) j
-  selection-there some j h = record {
+  -- the row that a valid index names
+  selection-there : (j : ℕ) → j < x.indices.count → SelectionThere (selection_of c x) j
+  selection-there j h = record {
     number_width = index-facts.width;
     number = (index-there x index-facts j h).1;
     selected = index-valid-there x index-facts j h;
-    shown = λ p. row-valid-there c (formed c r.column) (row_number (selection_of c x) j * bit_value (is_selected (selection_of c x) j)) below p;
+    shown = λ a p. row-valid-there c (formed c r.column) (row_number (selection_of c x) j) (named p) a;
+    start = λ p. let n : row_number (selection_of c x) j < c.table.rows = named p in (omega (arith, n, (formed c r.column).rows), offset-can (row_number (selection_of c x) j) (omega (arith, n)));
   }
     where
-      below : row_number (selection_of c x) j * bit_value (is_selected (selection_of c x) j) < c.table.rows
-      below = go (is_selected (selection_of c x) j) refl
-        where
-          go : (t : Bool) → is_selected (selection_of c x) j ≡ t → row_number (selection_of c x) j * bit_value t < c.table.rows
-          go true d = rw (mul-one (row_number (selection_of c x) j), ← index_number x j) (valid-below c.table.rows x r.indices j h (index-valid x j ∙ d))
-          go false d = rw (mul-zero (row_number (selection_of c x) j)) some
+      named : is_selected (selection_of c x) j ≡ true → row_number (selection_of c x) j < c.table.rows
+      named d = rw (← index_number x j) (valid-below c.table.rows x r.indices j h (index-valid x j ∙ d))
 
   pub selected-sum : sum x.indices.count (selected_entries (selection_of c x)) ≡ sum x.indices.count (taken_entries c x)
   selected-sum = sum-cong x.indices.count (λ j h. selected-entries u c x j)
 
-  pub selected-there : 0 < c.table.rows → SelectedThere (selection_of c x) x.indices.count
-  selected-there some = record {
+  pub selected-there : SelectedThere (selection_of c x) x.indices.count
+  selected-there = record {
     few = omega (arith, index-facts.count);
-    selection = selection-there some;
+    selection = selection-there;
     entries = λ j h. entries-there (is_shown (selection_of c x) j) (row_number (selection_of c x) j) (taken-row j h (shown-taken c x j));
     small = rw selected-sum (omega (arith, (total-small c x u e r x.indices.count (omega arith)).0));
   }
@@ -160,6 +172,7 @@ module _ {u : ℕ} {c : Column} {x : IndexColumn} (r : Ready c x) (e : layout_at
       number = index-facts.data_fit;
       bits = v.there;
       entries = λ j h. entries-there (bit_at s j) (number_at x.indices.width x.«data» j) (taken-row j h (validates-bit v j h));
+      short = λ j h. (start-small (bit_at s j) (number_at x.indices.width x.«data» j) (taken-row j h (validates-bit v j h)), rw (shown-entries u c x j v h) (entries-small j h));
       small = rw (shown-sum x.indices.count (omega arith)) (omega (arith, (total-small c x u e r x.indices.count (omega arith)).0));
     }
 

@@ -1,16 +1,17 @@
 // The rows of a column of variable width, gathered. `take_bytes` and `take_list` are one line each over `take_variable`, and have the Rust's names. `Shown` and
-// `Sources` have the numbers alone of the index column: its validity is in that of the output, and `lengths` and `rows` know of no tables.
-// First all offsets, in a loop without a branch: a null row has no entries, so its offset repeats. Then
-// the bytes of the valid rows, to where the offsets say. Wrong guesses of a branch cost more than the second loop. The columns are two parameters, as in Rust's
+// `Stretches` have the numbers alone of the index column: its validity is in that of the output, and `lengths` and `rows` know of no tables.
+// In turns of 32 rows: first the rows are listed and their offsets written, in a loop without a branch, for a null row has no entries and its offset repeats. Then
+// the bytes of the valid ones are copied, as they are listed. A wrong guess of a branch costs more than the second loop; and a loop that reads index and offset alone
+// has as many rows in flight as the core can, where one that also copies would wait for each in turn. The columns are two parameters, as in Rust's
 // `take(values, indices)`. The outputs are parameters of each function, for what comes back in a struct of `&mut`s that is handed on whole is not proved.
 ghost use Rattle.std.specs.Prelude.{◌≡◌};
 ghost use Rattle.tables.specs.Columns.{column_of, index_column_of};
 ghost use Rattle.gathers.specs.Ready.{stored_offsets, stored_data};
 ghost use Rattle.variable.specs.Ready.{VariableReady};
 
-use bits::number::number_at;
-use lengths::row::Shown;
-use rows::row::Sources;
+use bits::number::{number_at, put_number_at};
+use lengths::turn::{Shown, TURN};
+use rows::row::Stretches;
 use tables::column::{Column, IndexColumn};
 
 // The offsets and the bytes of the rows, where an offset has OW bytes and an entry `unit`. `out_validity` is the validity of the output rows, as it is
@@ -29,30 +30,35 @@ fn take_variable_at<const OW: usize>(
     ensures data_stored { out_data.new ≡ stored_data (column_of column.now) (index_column_of indices.now) out_data.old }
 {
     let offsets = column.offsets;
-    let index_width = indices.indices.width as usize;
-    let index_data = indices.data;
     let count = indices.indices.count as usize;
     let shown = Shown::<OW> {
         offsets,
-        index_width,
-        index_data,
+        index_width: indices.indices.width as usize,
+        index_data: indices.data,
         out_validity,
         count,
     };
-    shown.put_totals(out_offsets);
     let unit = unit as usize;
     let needed = number_at(offsets, OW, column.table.rows as usize) as usize * unit;
-    let sources = Sources::<OW> {
-        unit,
-        data: &column.data[..needed],
-        offsets,
-        index_width,
-        index_data,
-        out_offsets,
-        out_validity,
-        count,
-    };
-    sources.copy_rows(out_data);
+    let data = &column.data[..needed];
+    let mut starts = [0; TURN];
+    let mut lengths = [0; TURN];
+    let mut total = 0;
+    put_number_at(out_offsets, OW, 0, total);
+    for k in 0..count.div_ceil(TURN) {
+        let turn = shown.turn_at(k);
+        let after = shown.list_turn(turn, total, &mut starts, &mut lengths, out_offsets);
+        let stretches = Stretches {
+            unit,
+            data,
+            starts: &starts,
+            lengths: &lengths,
+            word: turn.word,
+            rows: turn.rows,
+        };
+        stretches.copy_rows(&mut out_data[total as usize * unit..after as usize * unit]);
+        total = after;
+    }
 }
 
 // The same at the column's own offset width: a number that is known at run time comes to a const parameter only by the arm of a `match`.

@@ -34,8 +34,7 @@ fn overflow_total(kind: Kind, new: u64, old: u64) -> u64
     new
 }
 
-// The data bytes that the gathered rows need, or refusal 6. An entry has `unit` bytes. Where there are no rows every index is null, and no bit of the
-// rows' validity need be there: nothing is read then.
+// The data bytes that the gathered rows need, or refusal 6. An entry has `unit` bytes.
 pub fn measure_variable(
     column: &Column<'_>,
     indices: &IndexColumn<'_>,
@@ -46,9 +45,6 @@ pub fn measure_variable(
     ensures { measured_numbers result ≡ measured (taken (column_of column.now) (index_column_of indices.now)) }
 {
     let table = column.table;
-    if table.rows == 0 {
-        return Ok(0);
-    }
     let selection = Selection {
         validity: column.validity,
         bit: table.validity_bit as usize,

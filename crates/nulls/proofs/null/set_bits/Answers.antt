@@ -1,9 +1,9 @@
--- A turn writes the next eight bytes of ones, or the lowest byte of the word; after the last the packed bytes are all.
-use Rattle.std.proofs.Common.{ℕ, Bool, ◌≡◌, true, suc, ◌&&◌, ◌+◌, ◌-◌, ◌*◌, ◌/◌, ◌<◌, nat_lt, length, ap, ◌∙◌, arith}
+-- A turn writes the next eight bytes of ones, or the bytes that are left.
+use Rattle.std.proofs.Common.{ℕ, Bool, ◌≡◌, true, ◌&&◌, ◌+◌, ◌-◌, ◌*◌, ◌/◌, nat_lt, ap, ◌∙◌, arith}
 use Rattle.bits.specs.Bytes.{overwrite}
 use Rattle.bits.specs.Bits.{pack_bytes}
-use Rattle.bits.proofs.Packing.{word_more, byte_more, bytes-over, bytes_end}
-use Rattle.bits.proofs.Words.{packed-next}
+use Rattle.bits.proofs.Packing.{word_more, bytes_more, bytes_end}
+use Rattle.bits.proofs.Words.{packed-first}
 use Rattle.nulls.proofs.Ones.{ones-left}
 use Rattle.nulls.proofs.null.set_bits.Goals as goal
 
@@ -16,19 +16,13 @@ loop-k-preserved c =
     word_more p a.out.now (8 * at.k) at.invariant c.ones.result (ones-left a.n (8 * at.k) c.ones.result c.ones.ensures) c.write_number.ensures
     ∙ ap (λ (m : ℕ). overwrite (pack_bytes m p) a.out.now) next
 
-pub loop-k-2-preserved : goal.loop-k-2-preserved
-loop-k-2-preserved c =
-    let at = c.loop-k-2 in
-    let n = c.args.n in
-    let d = c.loop-k.out in
-    let l : at.k < length d = omega arith in
-    let m = 8 + 8 * (((c.args.n + 7) / 8) / 8) - (at.k + 1) in
-    let more : 8 + 8 * (((c.args.n + 7) / 8) / 8) - at.k ≡ suc m = omega arith in
-    let next = packed-next at.k _ m at.word (λ p. nat_lt p n && true) more at.invariant.left in
-    record { packed = byte_more (λ p. nat_lt p n && true) d at.k at.invariant.packed l (c.low.ensures ∙ next.0); left = next.1 }
-
 pub returns : goal.returns
 returns c =
-    let m = c.loop-k-2.k in
-    bytes_end (λ i. true) c.args.n c.args.out.now m (omega arith)
-    (bytes-over (λ p. nat_lt p c.args.n && true) c.args.out.now (8 * c.loop-k.k) c.loop-k.invariant m (omega arith) c.loop-k-2.invariant.packed)
+    let a = c.args in
+    let whole : c.loop-k.k ≡ (a.n + 7) / 8 / 8 = omega arith in
+    let from = 8 * ((a.n + 7) / 8 / 8) in
+    let m = (a.n + 7) / 8 - from in
+    let g : ℕ → Bool = λ t. nat_lt (8 * from + t) a.n && true in
+    bytes_end (λ i. true) a.n a.out.now (from + m) (omega arith)
+    (bytes_more (λ p. nat_lt p a.n && true) a.out.now from (rw whole at c.loop-k.invariant) m c.ones-2.result
+    (packed-first m 8 c.ones-2.result g (omega arith) (ones-left a.n from c.ones-2.result c.ones-2.ensures)) c.write_up_to.ensures)

@@ -44,12 +44,12 @@ returns-in-Boolean c =
 pub take_bytes-requires : goal.take_bytes-requires
 take_bytes-requires c =
     let p = c.requires in
-    record { ready = p.ready; layout = layout-told _ c.in-VariableBytes.ensures refl; shows = p.validates; no_overflow = p.no_overflow; room = p.has_room }
+    record { ready = p.ready; layout = layout-told _ c.in-VariableBytes.ensures refl; shows = p.validates; room = p.has_room }
 
 pub take_list-requires : goal.take_list-requires
 take_list-requires c =
     let p = c.requires in
-    record { ready = p.ready; layout = layout-told _ c.in-List.ensures refl; shows = p.validates; no_overflow = p.no_overflow; room = p.has_room }
+    record { ready = p.ready; layout = layout-told _ c.in-List.ensures refl; shows = p.validates; room = p.has_room }
 
 pub take_fixed_size_list_primitive-requires : goal.take_fixed_size_list_primitive-requires
 take_fixed_size_list_primitive-requires c =

@@ -1,0 +1,9 @@
+-- The first t bits are the highest of the word.
+use Rattle.std.proofs.Common.{◌+◌}
+use Rattle.bits.specs.Numbers.{number_at}
+use Rattle.bits.specs.Bits.{bit_at}
+use Rattle.bits.proofs.Words.{PutIn}
+use Rattle.bitmaps.proofs.bit.BooleanBuffer.all_bits.Given as goal
+
+abbrev pub invariant-loop-t : goal.invariant-loop-t
+invariant-loop-t g l = PutIn (λ t. bit_at l.self.values.now (l.self.offset + number_at g.row.W l.numbers t)) l.t l.word

@@ -1,0 +1,6 @@
+-- The ones of a word, shifted down.
+use Rattle.bits.proofs.Words.{bit_of-ones-shifted}
+use Rattle.bits.proofs.number.ones.Goals as goal
+
+pub returns : goal.returns
+returns c = bit_of-ones-shifted 64 c.args.n c.requires.1
