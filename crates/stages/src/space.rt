@@ -43,7 +43,7 @@ fn check_buffer(buffer: OutputBuffer, needed: u64, lent: u64) -> Result<(), Refu
 {
     if lent < needed {
         return Err(Refusal::Space {
-            buffer,
+            place: buffer.place(),
             total: needed,
         });
     }

@@ -45,7 +45,7 @@ impl From<Refusal> for Answer {
             Refusal::Offsets { place } => numbers(4, place, 0),
             Refusal::Range { place } => numbers(5, place, 0),
             Refusal::Overflow { place, total } => numbers(6, place, total),
-            Refusal::Space { buffer, total } => numbers(7, buffer as u64, total),
+            Refusal::Space { place, total } => numbers(7, place, total),
             Refusal::Rows => numbers(8, 0, 0),
         }
     }
