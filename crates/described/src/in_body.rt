@@ -36,7 +36,7 @@ fn stated_lengths(d: Description) -> Lengths
 fn check_stated(d: Description, body: &[u8], indices: &IndexColumn<'_>) -> Result<(), Refusal>
     ensures { checked_numbers result ≡ sizes_refusal (column_in body.now d) (index_column_of indices.now) }
 {
-    let cut = some_cut(body.len() as u64, d);
+    let cut = some_cut(uses_at(d.table), body.len() as u64, d);
     let lengths = stated_lengths(d);
     check_sizes(d.table, cut, lengths, indices.indices, indices.lengths())
 }
