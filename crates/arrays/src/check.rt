@@ -12,7 +12,7 @@ ghost use Rattle.batches.specs.Batch.{batch_lines, arrays_refusals};
 ghost use Rattle.arrays.specs.Told.{batch_of, AllToldOf};
 
 use crate::batch::{Batch, check_batch};
-use described::in_body::{check_rows, measure_described};
+use described::in_body::check_described;
 use descriptions::record::describe;
 use stages::space::check_space;
 use tables::column::{IndexColumn, Output};
@@ -34,8 +34,8 @@ fn tested<'a>(first: bool, indices: &IndexColumn<'a>) -> IndexColumn<'a>
     }
 }
 
-// Refusals 1 to 6 of a column, and where none is met what its rows need. Each stage has one call: one that has two is not put in line, and hands its answer
-// back in memory, which on some cores is a call of `memset`.
+// Refusals 1 to 6 of a column, and where none is met what its rows need. One call serves the first column and the others: a stage that has two is not put in
+// line, and hands its answer back in memory, which on some cores is a call of `memset`.
 fn check_next(
     first: bool,
     d: Description,
@@ -45,8 +45,7 @@ fn check_next(
     requires { first ≡ false → InRange (column_in body.now d).table.rows (index_column_of indices.now) }
     ensures { ToldOf (column_in body.now d) (index_column_of indices.now) result }
 {
-    check_rows(d, body, &tested(first, indices))?;
-    measure_described(d, body, indices)
+    check_described(d, body, &tested(first, indices), indices)
 }
 
 // The columns one by one, each through overflow, and what they need together.

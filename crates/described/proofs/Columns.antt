@@ -1,8 +1,10 @@
 -- What the tests and the writing of one column tell (specs/Told.antt, specs/Taken.antt), by what the stages below answer. Assumes nothing.
 use mathlib.Core.Path.{◌≡◌, sym, ap, ◌∙◌, subst}
 use mathlib.Core.Bool.{true, false}
+use mathlib.Core.Logic.{inl, inr}
 use mathlib.Core.List.{List}
 use Prim.Native.Nat.{ℕ, ◌*◌, ◌≤◌}
+use native.Mathlib.Nat.{not-suc-le-zero}
 use native.Mathlib.Omega.{arith}
 use lib.ListN.{length}
 use Rattle.bits.specs.Bytes.{overwrite}
@@ -15,8 +17,8 @@ use Rattle.tables.specs.declared.table.Layout.{Layout}
 use Rattle.tables.specs.declared.table.Layout.TheVariants.{FixedWidth, BitMap, VariableWidth}
 use Rattle.tables.specs.declared.table.Lengths.{Lengths}
 use Rattle.tables.specs.Kinds.{kind_of, layout_of}
-use Rattle.tables.specs.Columns.{Column, IndexColumn, layout_at}
-use Rattle.tables.specs.Answers.{passes}
+use Rattle.tables.specs.Columns.{Column, IndexColumn, layout_at, no_indices}
+use Rattle.tables.specs.Answers.{accept, passes}
 use Rattle.tables.specs.Stages.{checked_numbers, offsets_refusal}
 use Rattle.tables.specs.Rows.{Rows, rows_of}
 use Rattle.gathers.specs.Taken.{take_rows}
@@ -27,12 +29,12 @@ use Rattle.tables.specs.Refusals.{index_refusal}
 use Rattle.tables.specs.Bounds.{Sized}
 use Rattle.variable.specs.Measured.{measured_numbers}
 use Rattle.stages.specs.Space.{lengths_for}
-use Rattle.described.specs.Told.{MeasuredOf, RestToldOf}
+use Rattle.described.specs.Told.{MeasuredOf, RestToldOf, TestedFor}
 use Rattle.described.specs.Taken.{taken_of, HasRoomFor, data_in, OffsetsIn}
 use Rattle.bits.proofs.Bytes.{length-overwrite}
 use Rattle.tables.proofs.Bounds.{offset-number-width}
 use Rattle.tables.proofs.Stages.{sized-well-formed, refusing}
-use Rattle.gathers.proofs.Stages.{measured-refused, measured-total, stored-by}
+use Rattle.gathers.proofs.Stages.{measured-refused, measured-total, stored-by, range-accepted, range-accepts}
 use Rattle.gathers.proofs.Lengths.{blocks-length, bits-length}
 use Rattle.gathers.proofs.Regular.{length-written}
 use Rattle.gathers.proofs.VariableRows.{ready-facts, offset-length-by-buffer}
@@ -46,6 +48,20 @@ refuses {r = r} e f = rw (sym e, f) (refusing r)
 
 pub lets-pass : {A : Type 0} {s : Result A Refusal} {t : A} {a : Answer} → checked_numbers s ≡ a → s ≡ Ok t → passes a ≡ true
 lets-pass e f = ap passes (sym e ∙ ap checked_numbers f)
+
+-- ---- what is tested in place of the index column
+
+no-range : (n : ℕ) → range_refusal n no_indices ≡ accept
+no-range n = range-accepted n no_indices (λ j h. absurd (not-suc-le-zero h))
+
+module _ {n : ℕ} {t x : IndexColumn} where
+  pub tested-range : TestedFor n t x → range_refusal n t ≡ range_refusal n x
+  tested-range (inl e) = ap (range_refusal n) e
+  tested-range (inr (e, r)) = ap (range_refusal n) e ∙ no-range n ∙ sym (range-accepts n x r.range)
+
+  pub tested-passes : TestedFor n t x → passes (index_refusal t) ≡ true → passes (index_refusal x) ≡ true
+  tested-passes (inl e) p = subst (λ (y : IndexColumn). passes (index_refusal y) ≡ true) e p
+  tested-passes (inr (e, r)) p = r.passed
 
 module _ (c : Column) (x : IndexColumn) where
   abbrev v : Rows

@@ -1,17 +1,18 @@
 -- What the tests of one column tell.
-use Rattle.std.specs.Prelude.{◌≡◌, if◌then◌else◌, Result, IfOk}
+use Rattle.std.specs.Prelude.{◌≡◌, ◌⊎◌, if◌then◌else◌, ℕ, Result, IfOk}
 use Rattle.tables.specs.declared.answer.Answer.{Answer}
 use Rattle.tables.specs.declared.refusal.Refusal.{Refusal}
 use Rattle.tables.specs.declared.table.Lengths.{Lengths}
 use Rattle.tables.specs.declared.table.Description.{Description}
 use Rattle.tables.specs.Kinds.{kind_of, uses_of}
-use Rattle.tables.specs.Columns.{Column, IndexColumn}
+use Rattle.tables.specs.Columns.{Column, IndexColumn, no_indices}
 use Rattle.tables.specs.Answers.{first_of}
 use Rattle.tables.specs.Stages.{checked_numbers, ◌or_else◌, form_refusal, offsets_refusal}
 use Rattle.gathers.specs.Taken.{taken}
 use Rattle.gathers.specs.Stored.{needed_lengths}
 use Rattle.gathers.specs.Gather.{through_lines}
 use Rattle.gathers.specs.Stages.{range_refusal, overflow_refusal}
+use Rattle.gathers.specs.Ready.{InRange}
 
 -- the lengths of the buffers that are used, as stated
 abbrev pub stated_lengths : Description → Lengths
@@ -20,6 +21,10 @@ stated_lengths d = record {
   offsets = if (uses_of (kind_of d.table.kind)).offset_width then d.offsets.len else 0;
   validity = d.validity.len;
 }
+
+-- what a column of so many rows is tested with in place of its index column: that one, or none where this is known to pass its tests and the range
+abbrev pub TestedFor : ℕ → IndexColumn → IndexColumn → Type 0
+TestedFor n t x = (t ≡ x) ⊎ ((t ≡ no_indices) × InRange n x)
 
 -- 1 to 5
 abbrev pub through_range : Column → IndexColumn → Answer

@@ -8,7 +8,7 @@ ghost use Rattle.tables.specs.Bounds.{Sized};
 ghost use Rattle.gathers.specs.Taken.{taken};
 ghost use Rattle.gathers.specs.Stored.{output_at, store};
 ghost use Rattle.gathers.specs.Ready.{Ready, NoOverflow};
-ghost use Rattle.described.specs.Told.{MeasuredOf, RestToldOf};
+ghost use Rattle.described.specs.Told.{MeasuredOf, RestToldOf, TestedFor};
 ghost use Rattle.described.specs.Taken.{taken_of, data_in, OffsetsIn, HasRoomFor};
 
 use bitmaps::bit::BooleanBuffer;
@@ -40,14 +40,20 @@ pub fn measure_column(column: &Column<'_>, indices: &IndexColumn<'_>) -> Result<
     Ok(needed_lengths(column.table, indices.indices.count, total))
 }
 
-// The tests that are left after refusals 1 to 3, through overflow, and where none refuses how many bytes of each output the rows need.
-pub fn check_column(column: &Column<'_>, indices: &IndexColumn<'_>) -> Result<Lengths, Refusal>
+// The tests that are left after refusals 1 to 3, through overflow, and where none refuses how many bytes of each output the rows need. The range is tested of
+// the index column that refusals 1 to 3 were tested of.
+pub fn check_column<'a>(
+    column: &Column<'_>,
+    tested: &IndexColumn<'a>,
+    indices: &IndexColumn<'a>,
+) -> Result<Lengths, Refusal>
     requires sized { Sized (column_of column.now) }
-    requires index_passes { passes (index_refusal (index_column_of indices.now)) ≡ true }
+    requires tested_for { TestedFor column.now.table.rows (index_column_of tested.now) (index_column_of indices.now) }
+    requires index_passes { passes (index_refusal (index_column_of tested.now)) ≡ true }
     ensures { RestToldOf (column_of column.now) (index_column_of indices.now) result }
 {
     check_offsets(column)?;
-    check_bounds(column.table.rows, indices).checked?;
+    check_bounds(column.table.rows, tested).checked?;
     measure_column(column, indices)
 }
 

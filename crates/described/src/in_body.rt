@@ -7,14 +7,12 @@ ghost use Rattle.tables.specs.Stages.{checked_numbers, sizes_refusal};
 ghost use Rattle.gathers.specs.Taken.{taken};
 ghost use Rattle.gathers.specs.Stored.{output_at, store};
 ghost use Rattle.gathers.specs.Ready.{Ready, NoOverflow};
-ghost use Rattle.described.specs.Told.{stated_lengths, through_range, MeasuredOf};
+ghost use Rattle.described.specs.Told.{stated_lengths, TestedFor, ToldOf};
 ghost use Rattle.described.specs.Taken.{taken_of, HasRoomFor};
 
-use crate::column::{Taken, measure_column, take_column};
+use crate::column::{Taken, check_column, take_column};
 use descriptions::body::{column_in, some_cut};
 use kinds::kind::uses_at;
-use offsets::check::check_offsets;
-use range::bounds::check_bounds;
 use sizes::check::check_sizes;
 use tables::column::IndexColumn;
 use tables::refusal::Refusal;
@@ -41,26 +39,18 @@ fn check_stated(d: Description, body: &[u8], indices: &IndexColumn<'_>) -> Resul
     check_sizes(d.table, cut, lengths, indices.indices, indices.lengths())
 }
 
-// Refusals 1 to 5.
-pub fn check_rows(d: Description, body: &[u8], indices: &IndexColumn<'_>) -> Result<(), Refusal>
-    ensures { checked_numbers result ≡ through_range (column_in body.now d) (index_column_of indices.now) }
-{
-    check_stated(d, body, indices)?;
-    let column = column_in(body, d);
-    check_offsets(&column)?;
-    check_bounds(column.table.rows, indices).checked
-}
-
-// Refusal 6, and where it is not met how many bytes of each output the rows need.
-pub fn measure_described(
+// Refusals 1 to 6, and where none is met how many bytes of each output the rows need.
+pub fn check_described<'a>(
     d: Description,
     body: &[u8],
-    indices: &IndexColumn<'_>,
+    tested: &IndexColumn<'a>,
+    indices: &IndexColumn<'a>,
 ) -> Result<Lengths, Refusal>
-    requires { Ready (column_in body.now d) (index_column_of indices.now) }
-    ensures { MeasuredOf (column_in body.now d) (index_column_of indices.now) result }
+    requires { TestedFor (column_in body.now d).table.rows (index_column_of tested.now) (index_column_of indices.now) }
+    ensures { ToldOf (column_in body.now d) (index_column_of indices.now) result }
 {
-    measure_column(&column_in(body, d), indices)
+    check_stated(d, body, tested)?;
+    check_column(&column_in(body, d), tested, indices)
 }
 
 pub fn take_described(

@@ -22,6 +22,6 @@ pub fn check(
     ensures { checked_numbers result ≡ first_of (refusals (column_of column.now) (index_column_of indices.now) (output_of out.now)) }
 {
     check_lent(column, indices)?;
-    let needed = check_column(column, indices)?;
+    let needed = check_column(column, indices, indices)?;
     check_space(needed, out.lengths())
 }
