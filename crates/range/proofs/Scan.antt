@@ -12,19 +12,19 @@ use Rattle.bits.specs.Sequences.{any}
 use Rattle.bits.specs.Numbers.{number_at, is_number_width}
 use Rattle.bits.specs.Bits.{valid_at}
 use Rattle.tables.specs.Columns.{IndexColumn, index_valid, index}
-use Rattle.tables.specs.Answers.{accept, passes}
+use Rattle.tables.specs.Answers.{refuse, accept, passes}
 use Rattle.tables.specs.Refusals.{index_refusal}
 use Rattle.gathers.specs.Gather.{is_outside}
 use Rattle.gathers.specs.Stages.{range_refusal}
 use Rattle.range.specs.Looked.{is_too_narrow, looked_at}
-use Rattle.range.specs.Scanned.{scan_start, Scannable}
+use Rattle.range.specs.Scanned.{scan_start, Scannable, FirstOutside, NoneOutside}
 use Rattle.bits.proofs.Tests.{and-false-right}
 use Rattle.bits.proofs.Sequences.{any_none}
 use Rattle.tables.proofs.There.{index-there, index_number, index_read, index-valid}
 use Rattle.tables.proofs.Facts.{IndexFormed, index-formed}
-use Rattle.gathers.proofs.Stages.{range-accepted}
+use Rattle.gathers.proofs.Stages.{range-accepted, range-refused}
 use Rattle.range.proofs.Numbers.{before-block, nowhere}
-use Rattle.range.proofs.Looked.{looked-none, looked-all}
+use Rattle.range.proofs.Looked.{looked-none, looked-all, looked-through}
 
 module _ (n : ℕ) (x : IndexColumn) (j : ℕ) where
   pub below : {w r : ℕ} → x.indices.width ≡ w → r ≡ number_at w x.«data» j → r < n → is_outside n x j ≡ false
@@ -63,12 +63,22 @@ module _ (x : IndexColumn) {w : ℕ} (e : x.indices.width ≡ w) where
         (sym (range-accepted n x (λ j l. below n x j e refl (few j))), sym (looked-none n x (ap (is_too_narrow n) e ∙ narrow)))
 
     module _ (h : is_too_narrow n w ≡ false) where
-      -- no number names no row: the scan lets pass, and looks at all
+      wide : is_too_narrow n x.indices.width ≡ false
+      wide = ap (is_too_narrow n) e ∙ h
+
+      -- an index is the first outside: the scan refuses it, and looks through it
+      pub scanned-through : {j : ℕ} → FirstOutside n x j → (refuse 5 j 0 ≡ range_refusal n x) × (j + 1 ≡ looked_at n x)
+      scanned-through {j} f = (sym (range-refused n x j f.inside f.outside f.before), sym (looked-through n x wide j f.inside f.outside f.before))
+
+      -- none is: it lets pass, and looks at all
+      pub scanned-all : NoneOutside n x → (accept ≡ range_refusal n x) × (x.indices.count ≡ looked_at n x)
+      scanned-all none = (sym (range-accepted n x none), sym (looked-all n x wide none))
+
+      -- nor is one where no number names no row
       pub scanned : None ≡ scan_start n w x.indices.count x.«data» → (accept ≡ range_refusal n x) × (x.indices.count ≡ looked_at n x)
       scanned s =
           let m : ℕ = x.indices.count in
-          let none = none-outside n x m (subst (λ (v : ℕ). any m (λ j. leb n (number_at v x.«data» j)) ≡ false) (sym e) (nowhere m _ s)) in
-          (sym (range-accepted n x none), sym (looked-all n x (ap (is_too_narrow n) e ∙ h) none))
+          scanned-all (none-outside n x m (subst (λ (v : ℕ). any m (λ j. leb n (number_at v x.«data» j)) ≡ false) (sym e) (nowhere m _ s)))
 
       -- where it starts at some place, the tests before it have told this
       pub scannable : {from : ℕ} → passes (index_refusal x) ≡ true → Some from ≡ scan_start n w x.indices.count x.«data» → Scannable n x from
@@ -76,7 +86,7 @@ module _ (x : IndexColumn) {w : ℕ} (e : x.indices.width ≡ w) where
           let before = before-block x.indices.count _ s in
           record {
             tested = p;
-            wide = ap (is_too_narrow n) e ∙ h;
+            wide = wide;
             inside = before.0;
             before = subst (λ (v : ℕ). any from (λ j. leb n (number_at v x.«data» j)) ≡ false) (sym e) before.1;
           }

@@ -1,17 +1,15 @@
--- The first index whose number is out of range, where it is valid, is the first outside; where none is, none is.
-use Rattle.std.proofs.Common.{◌≡◌, false, ℕ, ◌<◌, sym, below_more, arith}
+-- The first index whose number is out of range, where it is valid, is the first outside.
+use Rattle.std.proofs.Common.{◌≡◌, false, refl, below_more, arith}
 use Rattle.tables.specs.Columns.{index_column_of}
 use Rattle.gathers.specs.Gather.{is_outside}
 use Rattle.tables.proofs.Facts.{index-formed}
 use Rattle.tables.proofs.There.{index-valid-there}
-use Rattle.gathers.proofs.Stages.{range-accepted, range-refused}
 use Rattle.range.proofs.Scan.{below, null, found, number-there, none-outside}
-use Rattle.range.proofs.Looked.{looked-all, looked-through}
 use Rattle.range.proofs.bounds.scan_from.Goals as goal
 use Rattle.range.proofs.bounds.scan_from.Goals.{else-rows-number_at-via-then-rows-number_at+else-is_valid, else-rows-number_at-via-else-rows-number_at}
 
 pub loop-j-init : goal.loop-j-init
-loop-j-init g c = none-outside c.args.rows (index_column_of c.args.indices.now) c.args.from c.requires.scannable.before
+loop-j-init g c = record { none = refl; before = none-outside c.args.rows (index_column_of c.args.indices.now) c.args.from c.requires.scannable.before }
 
 pub number_at-requires : goal.number_at-requires
 number_at-requires g c =
@@ -30,22 +28,10 @@ loop-j-preserved g c =
       | else-rows-number_at-via-then-rows-number_at+else-is_valid w ↦ null n x at.j w.is_valid.ensures w.if-is_valid.false
       | else-rows-number_at-via-else-rows-number_at w ↦ below n x at.j c.requires.width c.number_at.ensures (omega arith)
     ] in
-    below_more _ _ at.invariant good
+    record { none = at.invariant.none; before = below_more _ _ at.invariant.before good }
 
-pub returns : goal.returns
-returns g c =
-    let n = c.args.rows in
-    let x = index_column_of c.args.indices.now in
-    let none : (k : ℕ) → k < x.indices.count → is_outside n x k ≡ false = λ k h. c.loop-j.invariant k (omega arith) in
-    (sym (range-accepted n x none), sym (looked-all n x c.requires.scannable.wide none))
-
-pub returns-then-is_valid : goal.returns-then-is_valid
-returns-then-is_valid g c =
+pub returns-then-is_valid-clause-some : goal.returns-then-is_valid-clause-some
+returns-then-is_valid-clause-some g c =
     let at = c.loop-j in
-    let inside = c.loop-j-test.true in
-    let n = c.args.rows in
-    let x = index_column_of c.args.indices.now in
-    let bad = found n x at.j c.is_valid.ensures c.requires.width c.number_at.ensures (omega arith) c.if-is_valid.true in (
-      sym (range-refused n x at.j inside bad at.invariant),
-      sym (looked-through n x c.requires.scannable.wide at.j inside bad at.invariant),
-    )
+    let bad = found c.args.rows (index_column_of c.args.indices.now) at.j c.is_valid.ensures c.requires.width c.number_at.ensures (omega arith) c.if-is_valid.true in
+    record { inside = c.loop-j-test.true; outside = bad; before = at.invariant.before }
