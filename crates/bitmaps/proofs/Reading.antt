@@ -14,7 +14,7 @@ use borrow.Author.Tests.{lt-ltb, le-ltb, ltb-true, ltb-false, eqb-true, eqb-fals
 use Rattle.bits.specs.Bytes.{part, overwrite}
 use Rattle.bits.specs.Routines.{overwrite_at}
 use Rattle.bits.specs.Numbers.{number_at, is_number_width, to_little_endian}
-use Rattle.bits.specs.Bits.{bit_value, bit_of, bit_at, bytes_for, pack_bytes, is_absent, valid_at}
+use Rattle.bits.specs.Bits.{bit_value, bit_of, bit_at, bytes_for, pack, pack_bytes, is_absent, valid_at}
 use Rattle.bits.proofs.Tests.{or-false, and_right, and-true, and-false-right}
 use Rattle.tables.specs.Columns.{IndexColumn, index_valid, index}
 use Rattle.tables.specs.Answers.{passes}
@@ -22,13 +22,13 @@ use Rattle.tables.specs.Refusals.{max_bytes, max_bit, index_refusal}
 use Rattle.gathers.specs.Buffers.{taken_bit}
 use Rattle.gathers.specs.Ready.{InRange}
 use Rattle.bitmaps.specs.Reach.{HoldsBits, MaskThere, Reached, Reaches}
-use Rattle.bits.proofs.Bits.{pack_bytes-cong, valid_at-absent, valid_at-present}
+use Rattle.bits.proofs.Bits.{pack-cong, pack_bytes-cong, valid_at-absent, valid_at-present}
 use Rattle.bits.proofs.Numbers.{number_at-from}
 use Rattle.bits.proofs.Words.{PutIn, lowest_bit, bit_of-and, bit_of-inside, to_little_endian-bits}
 use Rattle.bits.proofs.Packing.{bytes_more}
 use Rattle.tables.proofs.Facts.{IndexFormed, index-formed}
 use Rattle.tables.proofs.There.{index_number, index-valid, index-there}
-use Rattle.gathers.proofs.Buffers.{valid-below, bit-named}
+use Rattle.gathers.proofs.Buffers.{valid-below, bit-named, bit-null}
 
 -- ---- the validity of n rows as a word
 
@@ -71,6 +71,20 @@ module _ (s : List ℕ) (b rows : ℕ) (x : IndexColumn) (i : InRange rows x) wh
       go : {r : ℕ} (t : Bool) → is_absent s ≡ t → r < rows → (b + r < 8 * length s) × (b + r < 2 ^ 60)
       go false e l = (omega (arith, (held e).there), omega (arith, (held e).small))
       go true e l = absurd (omega (arith, some e))
+
+  -- of no rows none is valid, and the output is the validity of the indices
+  pub no_rows : (m : List ℕ) → rows ≡ 0 → (length x.validity ≡ 0 → ⊥)
+      → pack x.indices.count (λ j. bit_at x.validity (x.indices.validity_bit + j)) ≡ pack x.indices.count (λ j. taken_bit s b x j && valid_at m 0 j)
+  no_rows m e n =
+      pack-cong x.indices.count
+      (λ j h. sym (index-valid x j ∙ valid_at-present x.validity x.indices.validity_bit j n) ∙ none j h ∙ sym (ap (λ (t : Bool). t && valid_at m 0 j) (bit-null s b x j (none j h))))
+    where
+      none : (j : ℕ) → j < x.indices.count → index_valid x j ≡ false
+      none j h = go (index_valid x j) refl
+        where
+          go : (t : Bool) → index_valid x j ≡ t → t ≡ false
+          go true d = absurd (omega (arith, valid-below rows x i j h d))
+          go false d = refl
 
 -- ---- the n indices from index p on
 

@@ -181,6 +181,11 @@ impl BooleanBuffer<'_> {
         requires room { bytes_for indices.now.indices.count ≤ length out.old }
         ensures { out.new ≡ overwrite (taken_bits self.now.values.now self.now.offset (index_column_of indices.now) mask.now) out.old }
     {
+        // no index is valid where there is no row: their validity is all zeros, as the output is
+        if self.len == 0 && !indices.validity.is_empty() {
+            validity_of(indices).pack(out);
+            return;
+        }
         match indices.indices.width {
             4 => self.take_words::<4>(indices, mask, out),
             8 => self.take_words::<8>(indices, mask, out),
