@@ -16,7 +16,7 @@ const FILL: u8 = 0xEE;
 const NUMBERS: [Number; 4] = [Number::Number, Number::Place, Number::Total, Number::Nulls];
 
 #[derive(Drop)]
-pub enum Columns {
+enum Columns {
     One(Column),
     Several(Batch),
 }
@@ -32,18 +32,18 @@ pub struct Indices {
 
 // What is answered and written.
 #[derive(Drop)]
-pub struct Wanted {
+struct Wanted {
     numbers: [u64; 4],
-    pub validity: Vec<u8>,
-    pub offsets: Vec<u8>,
-    pub data: Vec<u8>,
+    validity: Vec<u8>,
+    offsets: Vec<u8>,
+    data: Vec<u8>,
 }
 
 #[derive(Drop)]
 pub struct Case {
-    pub columns: Columns,
-    pub indices: Indices,
-    pub wanted: Wanted,
+    columns: Columns,
+    indices: Indices,
+    wanted: Wanted,
 }
 
 // What is lent to a call. The answer has eight bytes more than are written.

@@ -8,10 +8,10 @@ use std::alloc::Global;
 // The kind is the number that stands in the file, which may be that of no kind.
 #[derive(Drop)]
 pub struct Column {
-    pub kind: u64,
+    kind: u64,
     width: u64,
     size: u64,
-    pub offset_width: u64,
+    offset_width: u64,
     rows: u64,
     data_bit: u64,
     validity_bit: u64,

@@ -130,7 +130,7 @@ impl Zeroed {
 }
 
 // How the cases of a file went so far. `zeroed` is None where no answer is published.
-#[derive(Drop)]
+#[derive(Clone, Copy)]
 pub struct Tally<'a> {
     pub name: &'a str,
     cases: u64,

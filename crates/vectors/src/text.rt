@@ -63,8 +63,23 @@ impl<'a> Fields<'a> {
     }
 }
 
+// Field n of a line, be it a case or not; empty where there are fewer.
+pub fn field(line: &[u8], n: usize) -> &[u8] {
+    line.split(|byte| *byte == b' ').nth(n).unwrap_or(b"")
+}
+
+// A field's number, or the largest one where the digits stand for one that is larger. What is no digit counts as sixteen, so that no line of text is without one.
+pub fn decimal(field: &[u8]) -> u64 {
+    let mut value: u64 = 0;
+    for byte in field {
+        let next = digit(*byte).unwrap_or(16);
+        value = value.saturating_mul(10).saturating_add(u64::from(next));
+    }
+    value
+}
+
 // A hexadecimal digit's value. The library's `to_digit` takes A to F too, which the files do not have.
-fn digit(byte: u8) -> Result<u8, Difference>
+pub fn digit(byte: u8) -> Result<u8, Difference>
     ensures { IfOk result (λ value. value < 16) }
 {
     match byte {
