@@ -2,8 +2,8 @@
 use mathlib.Core.Path.{◌≡◌, refl, sym, ap, ◌∙◌}
 use Rattle.std.specs.Prelude.{Ok, Err}
 use mathlib.Core.Bool.{Bool, true, false, cond, true≢false}
-use Prim.Native.Nat.{ℕ, suc, ◌*◌, ◌^◌, ◌<◌}
-use native.Mathlib.Nat.{le_refl}
+use Prim.Native.Nat.{ℕ, suc, ◌*◌, ◌^◌, ◌≤◌, ◌<◌}
+use native.Mathlib.Nat.{le_refl, zero-mul}
 use native.Mathlib.Omega.{arith}
 use lib.Dec.{eqb, ltb}
 use borrow.Author.Tests.{le-ltb, eqb-true, eq-eqb}
@@ -17,10 +17,10 @@ use Rattle.gathers.specs.Taken.{taken}
 use Rattle.gathers.specs.Gather.{overflow_at, overflow_total}
 use Rattle.gathers.specs.Stages.{measured}
 use Rattle.gathers.specs.Ready.{Ready}
-use Rattle.gathers.specs.Buffers.{taken_entries}
-use Rattle.bits.proofs.Sequences.{sum-cong, first_cong, first-none}
+use Rattle.gathers.specs.Buffers.{taken_bit_valid, taken_entries}
+use Rattle.bits.proofs.Sequences.{sum-cong, sum-zero, first_cong, first-none}
 use Rattle.tables.proofs.Views.{kind_at-number}
-use Rattle.gathers.proofs.VariableRows.{total-small, overflow-narrow, overflow-wide, variable-fit, variable-over}
+use Rattle.gathers.proofs.VariableRows.{total-small, overflow-narrow, overflow-wide, variable-fit, variable-over, entries-null, taken-below}
 use Rattle.lengths.specs.declared.total.Overflow.{Overflow}
 use Rattle.lengths.specs.Totals.{selected_entries, passing, sum_within}
 use Rattle.lengths.proofs.Running.{within-ok, within-err}
@@ -55,6 +55,17 @@ module _ {u : ℕ} {c : Column} {x : IndexColumn} (r : Ready c x) (e : layout_at
   -- where there is none, the rows need the bytes of all entries
   fits : {s : ℕ} → s ≡ sum count E → first count (over (largest_offset w)) ≡ count → refuse 0 0 (s * u) ≡ measured (taken c x)
   fits d none = variable-fit c x u e (sym overflow-first ∙ none) (ap (λ (t : ℕ). t * u) d)
+
+  -- of no rows every output row is null
+  pub no_rows : c.table.rows ≡ 0 → refuse 0 0 0 ≡ measured (taken c x)
+  no_rows z =
+      let none : (m : ℕ) → m ≤ count → sum m E ≡ 0 = λ m l. sum-zero m E (λ j h. go j (omega arith) (taken_bit_valid c.validity c.table.validity_bit x j) refl) in
+      ap (refuse 0 0) (sym (zero-mul u))
+      ∙ fits (sym (none count (le_refl count))) (first-none count (over (largest_offset w)) (λ j h. le-ltb (largest_offset w) (sum (suc j) E) (omega (arith, none (suc j) h))))
+    where
+      go : (j : ℕ) → j < count → (t : Bool) → taken_bit_valid c.validity c.table.validity_bit x j ≡ t → E j ≡ 0
+      go j h true d = absurd (omega (arith, taken-below c x u e r j h d))
+      go j h false d = entries-null c x u j d
 
   -- the entries as they are read
   abbrev read : ℕ → ℕ

@@ -34,7 +34,7 @@ fn overflow_total(kind: Kind, new: u64, old: u64) -> u64
     new
 }
 
-// The data bytes that the gathered rows need, or refusal 6. An entry has `unit` bytes.
+// The data bytes that the gathered rows need, or refusal 6. An entry has `unit` bytes. Where there are no rows every index is null, and nothing is read.
 pub fn measure_variable(
     column: &Column<'_>,
     indices: &IndexColumn<'_>,
@@ -45,6 +45,9 @@ pub fn measure_variable(
     ensures { measured_numbers result ≡ measured (taken (column_of column.now) (index_column_of indices.now)) }
 {
     let table = column.table;
+    if table.rows == 0 {
+        return Ok(0);
+    }
     let selection = Selection {
         validity: column.validity,
         bit: table.validity_bit as usize,

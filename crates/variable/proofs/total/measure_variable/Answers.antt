@@ -1,8 +1,11 @@
--- Where no total is above the largest offset the rows need the bytes of all entries; else the count stops at the row of refusal 6.
+-- Of no rows nothing is needed. Where no total is above the largest offset the rows need the bytes of all entries; else the count stops at the row of refusal 6.
 use Rattle.std.proofs.Common.{arith}
 use Rattle.variable.proofs.Reading.{facts, index-facts, selected-there}
-use Rattle.variable.proofs.Measuring.{bytes_fit, sum-fit, sum_over}
+use Rattle.variable.proofs.Measuring.{no_rows, bytes_fit, sum-fit, sum_over}
 use Rattle.variable.proofs.total.measure_variable.Goals as goal
+
+pub returns-then-table-eq0 : goal.returns-then-table-eq0
+returns-then-table-eq0 c = no_rows c.requires.ready c.requires.layout (omega arith)
 
 pub invariant_of-selection : goal.invariant_of-selection
 invariant_of-selection c = record { there = selected-there c.requires.ready c.requires.layout }
