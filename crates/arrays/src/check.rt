@@ -34,8 +34,8 @@ fn tested<'a>(first: bool, indices: &IndexColumn<'a>) -> IndexColumn<'a>
     }
 }
 
-// Refusals 1 to 6 of a column, and where none is met what its rows need. One call serves the first column and the others: a stage that has two is not put in
-// line, and hands its answer back in memory, which on some cores is a call of `memset`.
+// Refusals 1 to 6 of a column, and where none is met what its rows need. One call serves the first column and the others: a stage that is called twice in an
+// object is not put in line there, and hands its answer back in memory, which on some cores is a call of `memset`.
 fn check_next(
     first: bool,
     d: Description,

@@ -68,7 +68,7 @@ pub fn field(line: &[u8], n: usize) -> &[u8] {
     line.split(|byte| *byte == b' ').nth(n).unwrap_or(b"")
 }
 
-// A field's number, or the largest one where the digits stand for one that is larger. What is no digit counts as sixteen, so that no line of text is without one.
+// The number of a field that may be of no case, or the largest one where it is larger: what is no decimal digit counts as its hexadecimal value, or as sixteen.
 pub fn decimal(field: &[u8]) -> u64 {
     let mut value: u64 = 0;
     for byte in field {
