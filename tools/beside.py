@@ -19,9 +19,6 @@ RENAMED = [
     ("bits write_u16", "bits write_number"),
     ("bits write_u32", "bits write_number"),
     ("bits write_u64", "bits write_number"),
-    ("descriptions buffer", "descriptions column_in"),
-    ("descriptions offsets_buffer", "descriptions column_in"),
-    ("described check_described", "described check_rows"),
     ("entries answered_numbers", "tables From<Result<Gathered, Refusal>> for Answer::from"),
     ("entries answered_numbers", "tables answered_numbers"),
     ("kinds kind_of", "tables From<u64> for Kind::from"),
@@ -30,9 +27,9 @@ RENAMED = [
     ("lengths sum_entries", "lengths Selection::sum"),
     ("range block_of", "range first_block"),
     ("tables bare_column_at", "tables column_of"),
-    ("variable copy_by_width", "rows Sources::copy_rows"),
+    ("variable copy_by_width", "rows Stretches::copy_rows"),
     ("variable measured_by", "variable measured_numbers"),
-    ("variable put_by_width", "lengths Shown::put_totals"),
+    ("variable put_by_width", "lengths Shown::list_turn"),
 ]
 
 
