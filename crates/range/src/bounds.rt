@@ -23,8 +23,8 @@ pub struct Scanned {
 }
 
 // The first index from place `from` on that is outside, where no number before the place is; none if none is. (By the index column again, and not by its
-// `Numbers`: the validity is read too, and what is told is of the column.) Not in line: there three of its numbers lay in memory, and an index took 10
-// instructions in place of 7 on x86-64. What it tells is an `Option`, which goes in registers where cores have 64 bits.
+// `Numbers`: the validity is read too, and what is told is of the column.) Not in line: there two of the loop's numbers lay in memory, and an index below the
+// row count took 9 instructions in place of 6 on x86-64. What it tells is an `Option`, which goes in two registers there, and no struct in memory.
 #[inline(never)]
 fn scan_from<const W: usize>(rows: u64, indices: &IndexColumn<'_>, from: usize) -> Option<u64>
     requires scannable { Scannable rows (index_column_of indices.now) from }
