@@ -21,11 +21,12 @@ use Rattle.tables.specs.Bounds.{Sized}
 use Rattle.tables.specs.Answers.{passes}
 use Rattle.gathers.specs.Taken.{taken}
 use Rattle.gathers.specs.Stages.{range_refusal, overflow_refusal}
-use Rattle.gathers.specs.Ready.{InRange}
-use Rattle.described.specs.Told.{stated_lengths, through_range, RestToldOf, TestedFor, ToldOf}
+use Rattle.gathers.specs.Ready.{InRange, Ready}
+use Rattle.described.specs.Told.{stated_lengths, through_range, MeasuredOf, RestToldOf, TestedFor, ToldOf}
 use Rattle.tables.proofs.Bodies.{column-table, column-cut, column-stated}
 use Rattle.tables.proofs.Facts.{formed}
-use Rattle.tables.proofs.Stages.{sizes-passed, stage-passed, stage-refused, form-alone, form-tested}
+use Rattle.tables.proofs.Lines.{or_else-passes}
+use Rattle.tables.proofs.Stages.{sizes-passed, stage-passed, stage-refused, form-passed, form-alone, form-tested}
 use Rattle.gathers.proofs.Stages.{through-stages}
 use Rattle.described.proofs.Columns.{refuses, lets-pass, tested-range}
 
@@ -42,10 +43,27 @@ module _ (c : Column) (x : IndexColumn) {s : Checked} (e : checked_numbers s ≡
     pub sizes-let-pass : Sized c × (passes (index_refusal x) ≡ true)
     sizes-let-pass = sizes-passed c x (lets-pass e f)
 
+    pub form-stopped : {t : Checked} → checked_numbers t ≡ offsets_refusal c → {r : Refusal} → t ≡ Err r → checked_numbers t ≡ through_range c x
+    form-stopped d g = let h = stage-passed c x e f d in let n = refuses h g in h ∙ rw n
+
+    pub form-passed-on : {t : Checked} → checked_numbers t ≡ offsets_refusal c → t ≡ Ok tt → {a : Answer} → a ≡ range_refusal c.table.rows x → a ≡ through_range c x
+    form-passed-on d g h = let n = lets-pass (stage-passed c x e f d) g in h ∙ rw n
+
 -- ---- what refusals 1 to 5 say of those through 6
 
-pub through-stopped : (c : Column) (x : IndexColumn) (s : Checked) → checked_numbers s ≡ through_range c x → {r : Refusal} → s ≡ Err r → ToldOf c x (Err r)
-through-stopped c x s e f = let n = refuses e f in (sym (ap checked_numbers f) ∙ e ∙ (rw (through-stages c x, n)), tt)
+module _ (c : Column) (x : IndexColumn) (s : Checked) (e : checked_numbers s ≡ through_range c x) where
+  pub through-stopped : {r : Refusal} → s ≡ Err r → ToldOf c x (Err r)
+  through-stopped f = let n = refuses e f in (sym (ap checked_numbers f) ∙ e ∙ (rw (through-stages c x, n)), tt)
+
+  module _ (f : s ≡ Ok tt) where
+    pub through-ready : Ready c x
+    through-ready =
+        let p = or_else-passes (form_refusal c x) (range_refusal c.table.rows x) (lets-pass e f) in
+        let q = form-passed c x p.0 in
+        record { column = q.0; indices = record { passed = q.1; range = p.1 } }
+
+    pub through-measured : (m : Result Lengths Refusal) → MeasuredOf c x m → ToldOf c x m
+    through-measured m t = (t.0 ∙ (let p = lets-pass e f in rw (through-stages c x, p)), t.1)
 
 -- ---- by the tests of what is tested in place of the index column
 
